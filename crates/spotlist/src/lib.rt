@@ -1,0 +1,39 @@
+// Spots as text, one `x,y,level` a line.
+ghost use Rattle.spotlist.specs.Lines.{Read, Writes, Numbers, SpotLine};
+use space::Spot;
+
+// The number that the text writes; nothing exactly when it writes none in signed 32 bits.
+fn number(text: &str) -> Option<i32>
+    ensures { λ r. ⌜ Read Writes (now (text .entry)) r ⌝ }
+{
+    text.parse::<i32>().ok()
+}
+
+// The spot of three numbers; nothing exactly when one of the texts writes no number.
+fn three(first: &str, second: &str, third: &str) -> Option<Spot>
+    ensures { λ r. ⌜ Read (Numbers (now (first .entry)) (now (second .entry))) (now (third .entry)) r ⌝ }
+{
+    let Some(x) = number(first) else {
+        return None;
+    };
+    let Some(y) = number(second) else {
+        return None;
+    };
+    let Some(level) = number(third) else {
+        return None;
+    };
+    Some(Spot { x, y, level })
+}
+
+// The spot on the line; nothing exactly when the line is not three numbers parted by commas.
+pub fn spot(line: &str) -> Option<Spot>
+    ensures { λ r. ⌜ Read SpotLine (now (line .entry)) r ⌝ }
+{
+    let Some((first, rest)) = line.split_once(',') else {
+        return None;
+    };
+    let Some((second, third)) = rest.split_once(',') else {
+        return None;
+    };
+    three(first, second, third)
+}
