@@ -60,7 +60,11 @@ fn air_cases() -> usize
 fn lift_cases() -> usize
     ensures { λ r. ⌜ r ≡ 3 ⌝ }
 {
-    let up = Spot { x: 3, y: 4, level: 2 };
+    let up = Spot {
+        x: 3,
+        y: 4,
+        level: 2,
+    };
     let climbs = lift(40).distance(ground(0, 0), up) == Some(87);
     let fits = lift(6_400_000).widest() <= 100_000_000;
     let wide = lift(6_400_001).widest() > 100_000_000;
@@ -70,5 +74,19 @@ fn lift_cases() -> usize
 fn lift(price: u32) -> Lift<Plane>
     ensures { λ r. ⌜ r ≡ over-plane price ⌝ }
 {
-    Lift { below: Plane, price }
+    Lift {
+        below: Plane,
+        price,
+    }
+}
+
+#[cfg(test)]
+mod tests {
+    use super::*;
+    use std::test::*;
+
+    #[test]
+    fn every_call_comes_out_as_its_row_says() -> Result<(), Fail> {
+        check_eq(worked_cases(), 8)
+    }
 }

@@ -82,9 +82,9 @@ air-triangle : (a b c : Spot) → airBetween a c ≤ airBetween a b + airBetween
 air-triangle a b c =
     root-least (squares a c) .1 (airBetween a b + airBetween b c)
     (sum-within (apart (a .x) (c .x)) (apart (a .y) (c .y)) (apart (a .x) (b .x)) (apart (a .y) (b .y)) (apart (b .x) (c .x)) (apart (b .y) (c .y)) _
-     (apart-by (a .x) (b .x) (c .x))
-     (apart-by (a .y) (b .y) (c .y))
-     (sum-of-parts (apart (a .x) (b .x)) (apart (a .y) (b .y)) (apart (b .x) (c .x)) (apart (b .y) (c .y)) (airBetween a b) (airBetween b c) (root-least (squares a b) .0) (root-least (squares b c) .0)))
+    (apart-by (a .x) (b .x) (c .x))
+    (apart-by (a .y) (b .y) (c .y))
+    (sum-of-parts (apart (a .x) (b .x)) (apart (a .y) (b .y)) (apart (b .x) (c .x)) (apart (b .y) (c .y)) (airBetween a b) (airBetween b c) (root-least (squares a b) .0) (root-least (squares b c) .0)))
 
 squares-within : (x y : ℕ) → x ≤ 2000000 → y ≤ 2000000 → x * x + y * y ≤ 2828428 * 2828428
 squares-within x y h k = omega (arith, mul-le-mul h h, mul-le-mul k k)

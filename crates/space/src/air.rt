@@ -4,9 +4,9 @@ ghost use mathlib.Core.Bool.{true, _&&_};
 ghost use Rattle.std.specs.Slices.{found};
 ghost use Rattle.space.specs.Laws.{answered};
 ghost use Rattle.space.specs.Shapes.{onSheet, squares, airBetween, rootUp, LeastRoot};
+use crate::Space;
 use crate::plane::on_sheet;
 use crate::spot::Spot;
-use crate::Space;
 
 const WIDEST: u64 = 2_828_428;
 

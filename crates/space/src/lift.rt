@@ -2,10 +2,10 @@
 ghost use mathlib.Core.Path.{_≡_};
 ghost use Prim.Native.Nat.{_*_};
 ghost use Rattle.space.specs.Shapes.{apart, flat, middle as middleOf, raised, liftAdmitted, liftWidth, liftBetween, liftMeeting};
-use crate::plane::middle;
-use crate::spot::Spot;
 use crate::Joining;
 use crate::Space;
+use crate::plane::middle;
+use crate::spot::Spot;
 
 const TOP: i32 = 15;
 
@@ -61,7 +61,9 @@ pub impl<S: Space> Space for Lift<S> as LiftSpace {
     }
 
     fn widest(&self) -> u64 {
-        self.below.widest().saturating_add(TOP as u64 * self.price as u64)
+        self.below
+            .widest()
+            .saturating_add(TOP as u64 * self.price as u64)
     }
 
     fn distance(&self, a: Spot, b: Spot) -> Option<u64> {

@@ -1,9 +1,9 @@
 // The plane: wires run along x and along y.
 ghost use mathlib.Core.Path.{_≡_};
 ghost use Rattle.space.specs.Shapes.{onSheet, gridBetween, gridMeeting, middle};
-use crate::spot::Spot;
 use crate::Joining;
 use crate::Space;
+use crate::spot::Spot;
 
 const SIDE: u32 = 1_000_000;
 
@@ -30,6 +30,15 @@ pub(crate) fn middle(a: i32, b: i32, c: i32) -> i32
     let low = a.min(b);
     let high = a.max(b);
     low.max(high.min(c))
+}
+
+// Where the ways from o to a and to b part.
+fn parting(o: Spot, a: Spot, b: Spot) -> Spot
+    ensures { λ r. ⌜ r ≡ gridMeeting o a b ⌝ }
+{
+    let x = middle(o.x, a.x, b.x);
+    let y = middle(o.y, a.y, b.y);
+    Spot { x, y, level: 0 }
 }
 
 pub impl Space for Plane as PlaneSpace {
@@ -61,9 +70,7 @@ pub impl Joining for Plane as PlaneJoining {
 
     fn meet(&self, o: Spot, a: Spot, b: Spot) -> Option<Spot> {
         if on_sheet(o) && on_sheet(a) && on_sheet(b) {
-            let x = middle(o.x, a.x, b.x);
-            let y = middle(o.y, a.y, b.y);
-            Some(Spot { x, y, level: 0 })
+            Some(parting(o, a, b))
         } else {
             None
         }

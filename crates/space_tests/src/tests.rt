@@ -69,7 +69,10 @@ fn plane_meets() -> Result<(), Fail> {
 
 #[test]
 fn lift_levels() -> Result<(), Fail> {
-    let lift = Lift { below: Plane, price: 40 };
+    let lift = Lift {
+        below: Plane,
+        price: 40,
+    };
     check(lift.admits(at(0, 0, 0)))?;
     check(lift.admits(at(1_000_000, 0, 15)))?;
     check(!lift.admits(at(0, 0, -1)))?;
@@ -79,42 +82,77 @@ fn lift_levels() -> Result<(), Fail> {
     check_eq(lift.distance(at(0, 0, 0), at(0, 0, 15)), Some(600))?;
     check_eq(lift.distance(at(0, 0, 0), at(0, 0, 16)), None)?;
     check_eq(lift.distance(at(0, 0, -1), at(0, 0, 0)), None)?;
-    check_eq(lift.meet(at(0, 0, 1), at(4, 3, 9), at(5, 1, 5)), Some(at(4, 1, 5)))?;
+    check_eq(
+        lift.meet(at(0, 0, 1), at(4, 3, 9), at(5, 1, 5)),
+        Some(at(4, 1, 5)),
+    )?;
     check_eq(lift.meet(at(0, 0, 1), at(4, 3, 16), at(5, 1, 5)), None)
 }
 
 #[test]
 fn lift_prices() -> Result<(), Fail> {
-    let free = Lift { below: Plane, price: 0 };
+    let free = Lift {
+        below: Plane,
+        price: 0,
+    };
     check_eq(free.widest(), 4_000_000)?;
     check_eq(free.distance(at(1, 2, 0), at(1, 2, 15)), Some(0))?;
-    let dear = Lift { below: Plane, price: 4_294_967_295 };
+    let dear = Lift {
+        below: Plane,
+        price: 4_294_967_295,
+    };
     check_eq(dear.widest(), 64_428_509_425)?;
-    check_eq(dear.distance(at(0, 0, 15), at(1, 1, 0)), Some(64_424_509_427))
+    check_eq(
+        dear.distance(at(0, 0, 15), at(1, 1, 0)),
+        Some(64_424_509_427),
+    )
 }
 
 #[test]
 fn lift_sums_stop() -> Result<(), Fail> {
-    let vast = Vast { far: 18_446_744_073_709_551_600 };
-    let exact = Lift { below: vast, price: 1 };
+    let vast = Vast {
+        far: 18_446_744_073_709_551_600,
+    };
+    let exact = Lift {
+        below: vast,
+        price: 1,
+    };
     check_eq(exact.widest(), u64::MAX)?;
     check_eq(exact.distance(at(0, 0, 0), at(1, 0, 15)), Some(u64::MAX))?;
-    check_eq(exact.distance(at(0, 0, 0), at(1, 0, 14)), Some(u64::MAX - 1))?;
-    let past = Lift { below: vast, price: 2 };
+    check_eq(
+        exact.distance(at(0, 0, 0), at(1, 0, 14)),
+        Some(u64::MAX - 1),
+    )?;
+    let past = Lift {
+        below: vast,
+        price: 2,
+    };
     check_eq(past.widest(), u64::MAX)?;
     check_eq(past.distance(at(0, 0, 0), at(1, 0, 15)), Some(u64::MAX))?;
-    let dear = Lift { below: vast, price: 4_294_967_295 };
+    let dear = Lift {
+        below: vast,
+        price: 4_294_967_295,
+    };
     check_eq(dear.widest(), u64::MAX)?;
     check_eq(dear.distance(at(7, 0, 15), at(8, 0, 0)), Some(u64::MAX))
 }
 
 #[test]
 fn lift_over_lift() -> Result<(), Fail> {
-    let inner = Lift { below: Line, price: 3 };
-    let outer = Lift { below: inner, price: 50 };
+    let inner = Lift {
+        below: Line,
+        price: 3,
+    };
+    let outer = Lift {
+        below: inner,
+        price: 50,
+    };
     check_eq(outer.widest(), 2795)?;
     check_eq(outer.distance(at(-5, 9, 2), at(7, 0, 0)), Some(112))?;
-    check_eq(outer.meet(at(0, 8, 0), at(4, 3, 7), at(6, 1, 2)), Some(at(4, 8, 2)))
+    check_eq(
+        outer.meet(at(0, 8, 0), at(4, 3, 7), at(6, 1, 2)),
+        Some(at(4, 8, 2)),
+    )
 }
 
 #[test]
@@ -123,5 +161,8 @@ fn line_spots_may_be_0_apart() -> Result<(), Fail> {
     check_eq(Line.distance(at(5, 1, 0), at(5, 2, 0)), Some(0))?;
     check_eq(Line.distance(at(-1000, 1, 0), at(1000, 2, 0)), Some(2000))?;
     check_eq(Line.distance(at(-1001, 1, 0), at(1000, 2, 0)), None)?;
-    check_eq(Line.meet(at(0, 7, 0), at(4, 3, 0), at(6, 1, 0)), Some(at(4, 7, 0)))
+    check_eq(
+        Line.meet(at(0, 7, 0), at(4, 3, 0), at(6, 1, 0)),
+        Some(at(4, 7, 0)),
+    )
 }

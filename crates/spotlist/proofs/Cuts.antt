@@ -30,10 +30,10 @@ free-after bs k small digits sign i within comma =
     ⊎-elim
     (λ (l : i < k). let z : i ≡ 0 = omega arith in sign (omega arith) (sym (ap (λ j. getD bs j 0) z) ∙ comma))
     (λ (l : k ≤ i).
-      let there : i - k < length (drop k bs) = omega (arith, length-drop k bs) in
-      let d = digit-at (drop k bs) (i - k) digits there in
-      let same : getD (drop k bs) (i - k) 0 ≡ getD bs i 0 = getD-drop k bs (i - k) 0 ∙ ap (λ j. getD bs j 0) (omega arith) in
-      omega (arith, d, same, comma))
+    let there : i - k < length (drop k bs) = omega (arith, length-drop k bs) in
+    let d = digit-at (drop k bs) (i - k) digits there in
+    let same : getD (drop k bs) (i - k) 0 ≡ getD bs i 0 = getD-drop k bs (i - k) 0 ∙ ap (λ j. getD bs j 0) (omega arith) in
+    omega (arith, d, same, comma))
     (cases-lt i k)
 
 comma-free : (bs : List ℕ) (s : Bool) (p : Bool) → minus bs ≡ s → eqb (getD bs 0 0) 43 ≡ p → Digits 10 (cond s (drop 1 bs) (drop (cond p 1 0) bs)) → CommaFree bs
@@ -78,14 +78,14 @@ joined : (bs f g t : List ℕ) (r : Option Spot) → bs ≡ f ++ (44 ∷ (g ++ (
 joined bs f g t (Some s) e only n = record { first = f; second = g; third = t; parted = e; numbers = n }
 joined bs f g t None e only n =
     λ s l.
-      let cut = only s l in
-      n s (subst (λ (x : List ℕ). Numbers x g t s) (cut .0) (subst (λ (x : List ℕ). Numbers (l .first) x t s) (cut .1) (subst (λ (x : List ℕ). Numbers (l .first) (l .second) x s) (cut .2) (l .numbers))))
+    let cut = only s l in
+    n s (subst (λ (x : List ℕ). Numbers x g t s) (cut .0) (subst (λ (x : List ℕ). Numbers (l .first) x t s) (cut .1) (subst (λ (x : List ℕ). Numbers (l .first) (l .second) x s) (cut .2) (l .numbers))))
 
 pub cut-twice : (bs : List ℕ) (r q : Pieces) (f rest g t : RefT (List ℕ)) (a : Option Spot) → SplitAt 44 bs r → r ≡ Some (f, rest) → SplitAt 44 (rest .now) q → q ≡ Some (g, t) → Read (Numbers (f .now) (g .now)) (t .now) a → Read SpotLine bs a
 cut-twice bs r q f rest g t a h e k e′ n =
     joined bs (f .now) (g .now) (t .now) a (parts bs r f rest h e ∙ ap (λ x. f .now ++ (44 ∷ x)) (parts (rest .now) q g t k e′))
     (λ s l.
-      let one = first-cut bs r f rest h e s l in
-      let two = only (rest .now) q g t k e′ (l .second) (l .third) (sym (one .1)) (number-free _ _ (l .numbers .y)) in
-      (one .0, two .0, two .1))
+    let one = first-cut bs r f rest h e s l in
+    let two = only (rest .now) q g t k e′ (l .second) (l .third) (sym (one .1)) (number-free _ _ (l .numbers .y)) in
+    (one .0, two .0, two .1))
     n
