@@ -1,0 +1,9 @@
+pub mod Chains
+pub mod Labelled
+pub mod Accepted
+pub mod Heads
+pub mod Trails
+pub mod Grafting
+pub mod Parts
+pub mod Rooting
+pub mod Nearest

@@ -1,0 +1,33 @@
+ghost use mathlib.Core.Path.{_≡_};
+ghost use lib.ListN.{length};
+ghost use Rattle.forest.specs.Edges.{wire};
+ghost use Rattle.seed.specs.Seeds.{edgesOf, nodesOf};
+use super::Seed;
+
+impl Seed {
+    /// How many nodes there are.
+    pub fn nodes(&self) -> usize
+        ensures { λ r. ⌜ r ≡ nodesOf (now (self .entry)) ⌝ }
+    {
+        self.nodes
+    }
+
+    /// How many edges there are.
+    pub fn count(&self) -> usize
+        ensures { λ r. ⌜ r ≡ length (edgesOf (now (self .entry))) ⌝ }
+    {
+        self.edges.len()
+    }
+
+    /// The sum of the lengths of all edges.
+    pub fn wire(&self) -> u64
+        ensures { λ r. ⌜ r ≡ wire (edgesOf (now (self .entry))) ⌝ }
+    {
+        let edges = self.edges.as_slice();
+        let mut sum = 0;
+        for edge in edges {
+            sum += edge.length;
+        }
+        sum
+    }
+}

@@ -1,0 +1,3 @@
+pub mod Grown
+pub mod Lengths
+pub mod Spanning
