@@ -6,8 +6,12 @@ use mathlib.Core.List.{List, [], _∷_}
 use Prim.Native.Nat.{ℕ}
 use lib.Dec.{leb}
 use lib.IntN.{ℤ, pos, negsuc}
+use lib.ListN.{length}
 use Rattle.std.specs.declared.option.Option.{Option}
 use Rattle.std.specs.declared.option.Option.the-variants.{Some}
+use Rattle.forest.specs.Edges.{wire}
+use Rattle.forest.specs.declared.Edge.{Edge}
+use Rattle.seed.specs.Seeds.{edge}
 use Rattle.space.specs.Laws.{answered}
 use Rattle.space.specs.declared.Space.{Ghosts}
 use Rattle.space.specs.declared.air.Air.{Air}
@@ -19,6 +23,8 @@ use Rattle.space.specs.contracts.lift.LiftSpace.the-impl as liftSpace
 use Rattle.space.specs.contracts.plane.Plane as planeType
 use Rattle.space.specs.contracts.plane.PlaneJoining.the-impl as planeJoining
 use Rattle.space.specs.contracts.plane.PlaneSpace.the-impl as planeSpace
+use Rattle.span.specs.Lengths.{Pinned, distanceOf}
+use Rattle.span.specs.Spanning.{Spanning}
 
 abbrev pub plane : Plane
 plane = record {}
@@ -54,15 +60,32 @@ pub data Fact : Type 0 where
   lift-measures : (price : ℕ) (a b : Spot) (d : ℕ) → Fact
   -- whether a lift of that price over plane is at most 100,000,000 wide
   lift-fits : (price : ℕ) (answer : Bool) → Fact
+  -- on plane, the spanning seed of the pins takes these edges in this order, and its wire is w
+  plane-spans : (pins : List Spot) (edges : List Edge) (w : ℕ) → Fact
+
+-- The pins are such as a net can have, the edges are their spanning seed and the only one, and w is their wire.
+pub record PlaneSpans (pins : List Spot) (edges : List Edge) (w : ℕ) : Type 0 where
+  pub pinned : Pinned planeSpace.ghosts plane pins
+  pub spans : Spanning (length pins) (distanceOf planeSpace.ghosts plane pins) edges
+  pub only : (E : List Edge) → Spanning (length pins) (distanceOf planeSpace.ghosts plane pins) E → E ≡ edges
+  pub wired : wire edges ≡ w
 
 abbrev pub Holds : Fact → Type 0
 Holds (plane-meets o a b z) = plane-meet o a b ≡ Some z
 Holds (air-measures a b d) = distance airSpace.ghosts air a b ≡ Some d
 Holds (lift-measures price a b d) = distance lift-ghosts (over-plane price) a b ≡ Some d
+Holds (plane-spans pins edges w) = PlaneSpans pins edges w
 Holds (lift-fits price answer) = leb (lift-ghosts .width (over-plane price)) 100000000 ≡ answer
 
 abbrev pub origin : Spot
 origin = at (pos 0) (pos 0) (pos 0)
+
+-- The corners of a square, in the order in which they are entered.
+abbrev pub square : List Spot
+square = origin ∷ (at (pos 6) (pos 0) (pos 0) ∷ (at (pos 6) (pos 6) (pos 0) ∷ (at (pos 0) (pos 6) (pos 0) ∷ [])))
+
+abbrev pub square-seed : List Edge
+square-seed = edge 0 1 6 ∷ (edge 0 3 6 ∷ (edge 1 2 6 ∷ []))
 
 abbrev pub table : List Fact
 table =
@@ -74,4 +97,5 @@ table =
     ∷ (lift-measures 40 origin (at (pos 3) (pos 4) (pos 2)) 87
     ∷ (lift-fits 6400000 true
     ∷ (lift-fits 6400001 false
-    ∷ [])))))))
+    ∷ (plane-spans square square-seed 18
+    ∷ []))))))))

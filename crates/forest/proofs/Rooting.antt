@@ -142,9 +142,6 @@ module _ (E E′ : List Edge) (p q l r : ℕ) (new : New E E′ p q l) (FR FQ : 
 -- ---- the induction
 
 module _ (n : ℕ) (E : List Edge) (e : Edge) (acc : Accepted n E) (fit : Fit n E e) (before : (r : ℕ) → (F : Forest) × Rooted E r F) where
-  E′ : List Edge
-  E′ = E ++ e ∷ []
-
   apart-ab : labelOf E (e .a) ≡ labelOf E (e .b) → ⊥
   apart-ab q = fit .4 (label-joined E (e .a) (e .b) q)
 

@@ -28,7 +28,7 @@ use Rattle.space.specs.declared.spot.Spot.{Spot}
 use Rattle.span.specs.Grown.{Growing, Spanned}
 use Rattle.span.specs.Lengths.{Pinned, distanceOf, lengths, spotOf}
 use Rattle.span.specs.Spanning.{Alone, FirstPair, Firsts, Spanning, Steps, elsewhere, fan, offered}
-use Rattle.span.proofs.Steps.{alone-more, alone-none, first-pair, firsts-more, firsts-none, firsts-start, spanning, spanning-agrees, steps-more, steps-none}
+use Rattle.span.proofs.Steps.{alone-more, alone-none, first-pair, firsts-more, firsts-none, firsts-start, spanning, spanning-agrees, spanning-only, steps-more, steps-none}
 
 -- the edges of a seed are accepted, over as many nodes as it has
 seed-accepted : (n : ℕ) (t : Seed) → nodesOf t ≡ n → Accepted n (edgesOf t)
@@ -102,6 +102,7 @@ spans G s law pins t F w some few g e wired =
       few = few;
       nodes = g .nodes;
       cut = cut;
+      only = λ E s′. spanning-only n (lengths G s pins) E (edgesOf t) s′ cut;
       measured = λ p. spanning-agrees n (lengths G s pins) (distanceOf G s pins) (lengths-measured G s pins (law (p .narrow)) p) (edgesOf t) cut;
       tree = tree (seed-accepted n t (g .nodes)) e;
       wired = wired;

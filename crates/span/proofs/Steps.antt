@@ -9,7 +9,7 @@ use native.Mathlib.Omega.{arith}
 use lib.Dec.{eqb}
 use lib.ListN.{length, getD, take}
 use Rattle.std.specs.shelf.Lists.{kept-by}
-use Rattle.std.proofs.shelf.Lists.{length-push, getD-push, take-all, take-append-le, getD-append-left}
+use Rattle.std.proofs.shelf.Lists.{length-push, getD-push, take-all, take-more, take-append-le, getD-append-left}
 use Rattle.std.proofs.shelf.Tests.{cases-bool, cases-eq, cases-lt, eq-eqb, ne-eqb, eqb-false, not-true, not-from-false}
 use Rattle.order.specs.Firsts.{Among, First}
 use Rattle.order.specs.Firsts.Among.{here, there}
@@ -317,3 +317,32 @@ module _ (n : ℕ) (d t : ℕ → ℕ → ℕ) (agree : (u v : ℕ) → u < n �
 
 pub fan-more : (d : ℕ → ℕ → ℕ) (k : ℕ) → fan d (k + 1) ≡ fan d k ++ link d 0 (k + 1) ∷ []
 fan-more d k = ap (fan d) (add-one k) ∙ ap (λ v. fan d k ++ link d 0 v ∷ []) (sym (add-one k))
+
+-- ---- there is one spanning seed only
+
+edge-of : (e f : Edge) → linkOf e ≡ linkOf f → e ≡ f
+edge-of e f h = ap (λ (x : Link). back x) h
+  where
+    back : Link → Edge
+    back x = record { a = x .u; b = x .v; length = x .length }
+
+first-pair-only : (n : ℕ) (d : ℕ → ℕ → ℕ) (E : List Edge) (x y : Link) → FirstPair n d E x → FirstPair n d E y → x ≡ y
+first-pair-only n d E x y f g = link-order .apart x y (g .first x (f .pair)) (f .first y (g .pair))
+
+fronts-agree : (n : ℕ) (d : ℕ → ℕ → ℕ) (E D : List Edge) (z : Edge) → Steps n d E → Steps n d D → length E ≡ length D → (i : ℕ) → i ≤ length E → take i E ≡ take i D
+fronts-agree n d E D z s t e zero h = refl
+fronts-agree n d E D z s t e (suc i) h =
+    let le : i < length E = h in
+    let before : take i E ≡ take i D = fronts-agree n d E D z s t e i (omega arith) in
+    let P : List Edge → Type 0 = λ F. FirstPair n d F (linkOf (getD E i z)) in
+    let same-edge : getD E i z ≡ getD D i z =
+        edge-of (getD E i z) (getD D i z) (first-pair-only n d (take i D) _ _ (subst P before (s i z le)) (t i z (omega arith)))
+    in
+    ap (λ k. take k E) (sym (add-one i)) ∙ take-more E i z le ∙ ap (λ F. F ++ getD E i z ∷ []) before
+    ∙ ap (λ x. take i D ++ x ∷ []) same-edge ∙ sym (take-more D i z (omega arith)) ∙ ap (λ k. take k D) (add-one i)
+
+pub spanning-only : (n : ℕ) (d : ℕ → ℕ → ℕ) (E D : List Edge) → Spanning n d E → Spanning n d D → E ≡ D
+spanning-only n d E D s t =
+    let same-length : length E ≡ length D = omega (arith, s .whole, t .whole) in
+    let z : Edge = record { a = 0; b = 0; length = 0 } in
+    sym (take-all (length E) E (omega arith)) ∙ fronts-agree n d E D z (s .steps) (t .steps) same-length (length E) (omega arith) ∙ take-all (length E) D (omega arith)

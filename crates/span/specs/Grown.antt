@@ -9,6 +9,7 @@ use Rattle.std.specs.declared.result.Result.the-variants.{Ok, Err}
 use Rattle.order.specs.declared.link.Link.{Link}
 use Rattle.forest.specs.Edges.{wire}
 use Rattle.forest.specs.Paths.{Tree}
+use Rattle.forest.specs.declared.Edge.{Edge}
 use Rattle.seed.specs.Seeds.{edgesOf, nodesOf}
 use Rattle.seed.specs.declared.store.Refusal.{Refusal}
 use Rattle.seed.specs.declared.store.Refusal.the-variants as refusal
@@ -25,6 +26,7 @@ pub record Spanned {X : Type 0} (G : Ghosts X) (s : X) (pins : List Spot) (w : �
   pub few : length pins ≤ 512
   pub nodes : nodesOf t ≡ length pins
   pub cut : Spanning (length pins) (lengths G s pins) (edgesOf t)
+  pub only : (E : List Edge) → Spanning (length pins) (lengths G s pins) E → E ≡ edgesOf t
   pub measured : Pinned G s pins → Spanning (length pins) (distanceOf G s pins) (edgesOf t)
   pub tree : Tree (length pins) (edgesOf t)
   pub wired : w ≡ wire (edgesOf t)

@@ -1,6 +1,6 @@
-use native.Mathlib.Omega.{arith}
+use mathlib.Core.Path.{refl}
 use Rattle.cases.proofs.Rows.{rows}
 use Rattle.cases.proofs.worked_cases.Needs as need
 
 pub returns : need.returns
-returns c = record { every = rows; count = omega arith }
+returns c = record { every = rows; count = refl }
