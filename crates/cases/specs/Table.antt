@@ -12,7 +12,7 @@ use Rattle.std.specs.declared.option.Option.the-variants.{Some}
 use Rattle.forest.specs.Edges.{wire}
 use Rattle.forest.specs.declared.Edge.{Edge}
 use Rattle.seed.specs.Seeds.{edge}
-use Rattle.space.specs.Laws.{answered}
+use Rattle.space.specs.Laws.{answered, limit}
 use Rattle.space.specs.declared.Space.{Ghosts}
 use Rattle.space.specs.declared.air.Air.{Air}
 use Rattle.space.specs.declared.lift.Lift.{Lift}
@@ -75,7 +75,7 @@ Holds (plane-meets o a b z) = plane-meet o a b ≡ Some z
 Holds (air-measures a b d) = distance airSpace.ghosts air a b ≡ Some d
 Holds (lift-measures price a b d) = distance lift-ghosts (over-plane price) a b ≡ Some d
 Holds (plane-spans pins edges w) = PlaneSpans pins edges w
-Holds (lift-fits price answer) = leb (lift-ghosts .width (over-plane price)) 100000000 ≡ answer
+Holds (lift-fits price answer) = leb (lift-ghosts .width (over-plane price)) limit ≡ answer
 
 abbrev pub origin : Spot
 origin = at (pos 0) (pos 0) (pos 0)

@@ -11,8 +11,8 @@ use space::PlaneJoining;
 use space::PlaneSpace;
 use space::Space;
 use space::Spot;
-use space::spot::SpotDebug;
-use space::spot::SpotPartialEq;
+use space::SpotDebug;
+use space::SpotPartialEq;
 use span::Spanner;
 use std::test::*;
 

@@ -11,7 +11,7 @@ use Rattle.std.proofs.shelf.Signed.{ints, clamps}
 use Rattle.std.proofs.shelf.Tests.{and-parts, and-from}
 use Rattle.space.specs.declared.spot.Spot.{Spot}
 use Rattle.space.specs.Laws.{Metric, Meets}
-use Rattle.space.specs.Shapes.{apart, middle, flat, liftAdmitted, liftWidth, liftBetween, liftMeeting, raised}
+use Rattle.space.specs.Shapes.{apart, middle, flat, liftAdmitted, liftWidth, liftBetween, liftMeeting, atLevel}
 use Rattle.space.proofs.Grid.{apart-self, apart-swap, apart-by, middle-first, middle-second}
 
 -- what it says of a spot to be admitted by a lift
@@ -52,7 +52,7 @@ module _ (admitted : Spot → Bool) (w : ℕ) (d : Spot → Spot → ℕ) (c : �
 
   lifted-swap : (a b : Spot) → Lifted admitted a → Lifted admitted b → liftBetween d c a b ≡ liftBetween d c b a
   lifted-swap a b h k =
-      omega (arith, uncut a b h k, uncut b a k h, m .either-way (flat a) (flat b) (h .down) (k .down), ap (λ n. c * n) (apart-swap (a .level) (b .level)))
+      omega (arith, uncut a b h k, uncut b a k h, m .symmetric (flat a) (flat b) (h .down) (k .down), ap (λ n. c * n) (apart-swap (a .level) (b .level)))
 
   lifted-by : (a b e : Spot) → Lifted admitted a → Lifted admitted b → Lifted admitted e → liftBetween d c a e ≤ liftBetween d c a b + liftBetween d c b e
   lifted-by a b e h k l =
@@ -61,7 +61,7 @@ module _ (admitted : Spot → Bool) (w : ℕ) (d : Spot → Spot → ℕ) (c : �
   pub lifted-metric : Metric (liftAdmitted admitted) (liftWidth w c) (liftBetween d c)
   lifted-metric = record {
     itself = λ a h. lifted-self a (lifted admitted a h);
-    either-way = λ a b h k. lifted-swap a b (lifted admitted a h) (lifted admitted b k);
+    symmetric = λ a b h k. lifted-swap a b (lifted admitted a h) (lifted admitted b k);
     triangle = λ a b e h k l. lifted-by a b e (lifted admitted a h) (lifted admitted b k) (lifted admitted e l);
     within = λ a b h k.
         let ha = lifted admitted a h in
@@ -74,13 +74,13 @@ module _ (admitted : Spot → Bool) (w : ℕ) (d : Spot → Spot → ℕ) (c : �
     flattened : (o a b : Spot) → Lifted admitted o → Lifted admitted a → Lifted admitted b → meeting (flat o) (flat a) (flat b) ≡ flat (liftMeeting meeting o a b)
     flattened o a b h k l =
         let z = meeting (flat o) (flat a) (flat b) in
-        ap (raised z) (j .ground (flat o) (flat a) (flat b) (h .down) (k .down) (l .down) refl refl refl)
+        ap (atLevel z) (j .level-0 (flat o) (flat a) (flat b) (h .down) (k .down) (l .down) refl refl refl)
 
     meeting-lifted : (o a b : Spot) → Lifted admitted o → Lifted admitted a → Lifted admitted b → Lifted admitted (liftMeeting meeting o a b)
     meeting-lifted o a b h k l = record {
       low = middle-low (o .level) (a .level) (b .level) (h .low) (k .low) (l .low);
       high = middle-high (o .level) (a .level) (b .level) (h .high) (k .high) (l .high);
-      down = sym (ap admitted (flattened o a b h k l)) ∙ j .stays (flat o) (flat a) (flat b) (h .down) (k .down) (l .down);
+      down = sym (ap admitted (flattened o a b h k l)) ∙ j .inside (flat o) (flat a) (flat b) (h .down) (k .down) (l .down);
     }
 
     admits-again : (s : Spot) → Lifted admitted s → liftAdmitted admitted s ≡ true
@@ -103,8 +103,8 @@ module _ (admitted : Spot → Bool) (w : ℕ) (d : Spot → Spot → ℕ) (c : �
 
     pub lifted-meets : Meets (liftAdmitted admitted) (liftBetween d c) (liftMeeting meeting)
     lifted-meets = record {
-      stays = λ o a b h k l. admits-again _ (meeting-lifted o a b (lifted admitted o h) (lifted admitted a k) (lifted admitted b l));
+      inside = λ o a b h k l. admits-again _ (meeting-lifted o a b (lifted admitted o h) (lifted admitted a k) (lifted admitted b l));
       first = λ o a b h k l. meeting-first o a b (lifted admitted o h) (lifted admitted a k) (lifted admitted b l);
       second = λ o a b h k l. meeting-second o a b (lifted admitted o h) (lifted admitted a k) (lifted admitted b l);
-      ground = λ o a b h k l p q r. middle-ground (o .level) (a .level) (b .level) p q r;
+      level-0 = λ o a b h k l p q r. middle-ground (o .level) (a .level) (b .level) p q r;
     }

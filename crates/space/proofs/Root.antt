@@ -9,8 +9,8 @@ use lib.Dec.{leb}
 use Rattle.std.proofs.shelf.Tests.{cases-lt, cases-order, cond-both, leb-true, leb-false}
 use Rattle.space.specs.declared.spot.Spot.{Spot}
 use Rattle.space.specs.Laws.{Metric}
-use Rattle.space.specs.Shapes.{apart, onSheet, LeastRoot, rootFrom, rootUp, squares, airBetween}
-use Rattle.space.proofs.Grid.{sheet, apart-self, apart-swap, apart-by, apart-within}
+use Rattle.space.specs.Shapes.{apart, inRange, LeastRoot, rootFrom, rootUp, squares, airBetween}
+use Rattle.space.proofs.Grid.{within, apart-self, apart-swap, apart-by, apart-within}
 
 square-grows : (x y : ℕ) → x < y → x * x < y * y
 square-grows x y h = omega (arith, mul-le-mul {n₁ = x + 1} {m₁ = x + 1} {n₂ = y} {m₂ = y} (omega arith) (omega arith))
@@ -95,12 +95,12 @@ squares-swap a b = rw (apart-swap (a .x) (b .x), apart-swap (a .y) (b .y))
 squares-self : (a : Spot) → squares a a ≡ 0
 squares-self a = rw (apart-self (a .x), apart-self (a .y))
 
-pub air-metric : Metric onSheet 2828428 airBetween
+pub air-metric : Metric inRange 2828428 airBetween
 air-metric = record {
   itself = λ a h. omega (arith, root-least (squares a a) .1 0 (omega (arith, squares-self a)));
-  either-way = λ a b h k. ap rootUp (squares-swap a b);
+  symmetric = λ a b h k. ap rootUp (squares-swap a b);
   triangle = λ a b c h k l. air-triangle a b c;
   within = λ a b h k.
       root-least (squares a b) .1 2828428
-      (squares-within _ _ (apart-within (a .x) (b .x) 1000000 (sheet a h .across) (sheet b k .across)) (apart-within (a .y) (b .y) 1000000 (sheet a h .along) (sheet b k .along)));
+      (squares-within _ _ (apart-within (a .x) (b .x) 1000000 (within a h .across) (within b k .across)) (apart-within (a .y) (b .y) 1000000 (within a h .along) (within b k .along)));
 }

@@ -12,13 +12,23 @@ use Rattle.space.specs.declared.spot.Spot.{Spot}
 abbrev pub apart : ℤ → ℤ → ℕ
 apart a b = natAbs (a -ℤ b)
 
--- The middle one of three numbers.
+-- m lies between a and b, ends included.
+abbrev pub Between : ℤ → ℤ → ℤ → Type 0
+Between a b m = apart a m + apart m b ≡ apart a b
+
+-- m is the middle one of three numbers: it lies between each two of them.
+pub record Middle (a b c m : ℤ) : Type 0 where
+  pub ab : Between a b m
+  pub ac : Between a c m
+  pub bc : Between b c m
+
+-- The middle one of three numbers, by a formula.
 abbrev pub middle : ℤ → ℤ → ℤ → ℤ
 middle a b c = maxZ (minZ a b) (minZ (maxZ a b) c)
 
 -- Level 0, with x and y from -1,000,000 to 1,000,000.
-abbrev pub onSheet : Spot → Bool
-onSheet s = eqb (natAbs (s .level)) 0 && leb (natAbs (s .x)) 1000000 && leb (natAbs (s .y)) 1000000
+abbrev pub inRange : Spot → Bool
+inRange s = eqb (natAbs (s .level)) 0 && leb (natAbs (s .x)) 1000000 && leb (natAbs (s .y)) 1000000
 
 -- Plane's distance and meet.
 abbrev pub gridBetween : Spot → Spot → ℕ
@@ -50,11 +60,11 @@ abbrev pub airBetween : Spot → Spot → ℕ
 airBetween a b = rootUp (squares a b)
 
 -- The spot moved to another level, and to level 0.
-abbrev pub raised : Spot → ℤ → Spot
-raised s n = record { x = s .x; y = s .y; level = n }
+abbrev pub atLevel : Spot → ℤ → Spot
+atLevel s n = record { x = s .x; y = s .y; level = n }
 
 abbrev pub flat : Spot → Spot
-flat s = raised s (pos 0)
+flat s = atLevel s (pos 0)
 
 -- A sum that stops at the largest unsigned 64-bit number.
 abbrev pub capped : ℕ → ℕ
@@ -71,4 +81,4 @@ abbrev pub liftBetween : (Spot → Spot → ℕ) → (price : ℕ) → Spot → 
 liftBetween below price a b = capped (below (flat a) (flat b) + price * apart (a .level) (b .level))
 
 abbrev pub liftMeeting : (Spot → Spot → Spot → Spot) → Spot → Spot → Spot → Spot
-liftMeeting below o a b = raised (below (flat o) (flat a) (flat b)) (middle (o .level) (a .level) (b .level))
+liftMeeting below o a b = atLevel (below (flat o) (flat a) (flat b)) (middle (o .level) (a .level) (b .level))

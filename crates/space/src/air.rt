@@ -3,9 +3,9 @@ ghost use mathlib.Core.Path.{_≡_};
 ghost use mathlib.Core.Bool.{true, _&&_};
 ghost use Rattle.std.specs.Slices.{found};
 ghost use Rattle.space.specs.Laws.{answered};
-ghost use Rattle.space.specs.Shapes.{onSheet, squares, airBetween, rootUp, LeastRoot};
+ghost use Rattle.space.specs.Shapes.{inRange, squares, airBetween, rootUp, LeastRoot};
 use crate::Space;
-use crate::plane::on_sheet;
+use crate::range::in_range;
 use crate::spot::Spot;
 
 const WIDEST: u64 = 2_828_428;
@@ -22,10 +22,10 @@ pub(crate) fn root_up(n: u64) -> u64
     if root * root == n { root } else { root + 1 }
 }
 
-// dx² + dy², of two spots of the sheet.
+// dx² + dy², of two spots in range.
 fn square_sum(a: Spot, b: Spot) -> u64
-    requires from { ⌜ onSheet a ≡ true ⌝ }
-    requires to { ⌜ onSheet b ≡ true ⌝ }
+    requires from { ⌜ inRange a ≡ true ⌝ }
+    requires to { ⌜ inRange b ≡ true ⌝ }
     ensures { λ r. ⌜ r ≡ squares a b ⌝ }
 {
     let dx = a.x.abs_diff(b.x) as u64;
@@ -34,14 +34,14 @@ fn square_sum(a: Spot, b: Spot) -> u64
 }
 
 pub impl Space for Air as AirSpace {
-    ghost admitted = { λ _ s. onSheet s };
+    ghost admitted = { λ _ s. inRange s };
 
     ghost width = { λ _. 2828428 };
 
     ghost between = { λ _ a b. airBetween a b };
 
     fn admits(&self, spot: Spot) -> bool {
-        on_sheet(spot)
+        in_range(spot)
     }
 
     fn widest(&self) -> u64 {
@@ -50,10 +50,10 @@ pub impl Space for Air as AirSpace {
 
     // `least` says in plain words which number the distance is.
     fn distance(&self, a: Spot, b: Spot) -> Option<u64>
-        ensures answer { λ r. ⌜ r ≡ answered (onSheet a && onSheet b) (airBetween a b) ⌝ }
+        ensures answer { λ r. ⌜ r ≡ answered (inRange a && inRange b) (airBetween a b) ⌝ }
         ensures least { λ r. ⌜ found r (λ d. LeastRoot (squares a b) d) ⌝ }
     {
-        if on_sheet(a) && on_sheet(b) {
+        if in_range(a) && in_range(b) {
             Some(root_up(square_sum(a, b)))
         } else {
             None

@@ -4,11 +4,13 @@ ghost use mathlib.Core.Path.{_≡_};
 ghost use mathlib.Core.Bool.{Bool, _&&_};
 ghost use Prim.Native.Nat.{ℕ, _≤_};
 ghost use Rattle.space.specs.declared.spot.Spot.{Spot};
-ghost use Rattle.space.specs.Laws.{answered, Metric, Meets};
+ghost use Rattle.space.specs.Laws.{answered, limit, Metric, Meets};
 
 pub mod air;
 pub mod lift;
+pub mod middle_one;
 pub mod plane;
+mod range;
 pub mod spot;
 
 pub use air::Air;
@@ -20,6 +22,9 @@ pub use plane::Plane;
 pub use plane::PlaneJoining;
 pub use plane::PlaneSpace;
 pub use spot::Spot;
+pub use spot::SpotDebug;
+pub use spot::SpotPartialEq;
+pub use middle_one::middle;
 
 // A wiring space. `admitted`, `width` and `between` are what it means; each call answers its part of that meaning and
 // changes nothing. The law is owed whenever the space is at most 100,000,000 wide.
@@ -30,7 +35,7 @@ pub trait Space {
 
     ghost between: { Self → Spot → Spot → ℕ };
 
-    law metric: { (s : Self) → width s ≤ 100000000 → Metric (admitted s) (width s) (between s) };
+    law metric: { (s : Self) → width s ≤ limit → Metric (admitted s) (width s) (between s) };
 
     // Whether the spot may be used.
     fn admits(&self, spot: Spot) -> bool
@@ -50,7 +55,7 @@ pub trait Space {
 pub trait Joining: Space {
     ghost meeting: { Self → Spot → Spot → Spot → Spot };
 
-    law meets: { (s : Self) → Self·Space .width s ≤ 100000000 → Meets (Self·Space .admitted s) (Self·Space .between s) (meeting s) };
+    law meets: { (s : Self) → Self·Space .width s ≤ limit → Meets (Self·Space .admitted s) (Self·Space .between s) (meeting s) };
 
     // The meet of a and b seen from o; nothing exactly when one of the three is not admitted.
     fn meet(&self, o: Spot, a: Spot, b: Spot) -> Option<Spot>

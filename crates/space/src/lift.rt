@@ -1,48 +1,49 @@
 // A lift: a space in which a wire may also change level, at a price for each level. It stands over any wiring space.
 ghost use mathlib.Core.Path.{_≡_};
+ghost use mathlib.Core.Bool.{_&&_};
 ghost use Prim.Native.Nat.{_*_};
-ghost use Rattle.space.specs.Shapes.{apart, flat, middle as middleOf, raised, liftAdmitted, liftWidth, liftBetween, liftMeeting};
+ghost use lib.IntN.{pos};
+ghost use lib.Signed.{leZ};
+ghost use Rattle.space.specs.Shapes.{apart, atLevel, flat, middle as middleOf, liftAdmitted, liftWidth, liftBetween, liftMeeting};
 use crate::Joining;
 use crate::Space;
-use crate::plane::middle;
+use crate::middle_one::middle;
 use crate::spot::Spot;
 
 const TOP: i32 = 15;
 
-#[derive(Drop)]
+#[derive(Clone, Copy, Drop)]
 pub struct Lift<S> {
     pub below: S,
     pub price: u32,
 }
 
-// The spot moved to level 0.
-pub(crate) fn flatten(spot: Spot) -> Spot
+/// The spot moved to level 0.
+fn flatten(spot: Spot) -> Spot
     ensures { λ r. ⌜ r ≡ flat spot ⌝ }
 {
-    Spot {
-        x: spot.x,
-        y: spot.y,
-        level: 0,
-    }
+    spot.at_level(0)
 }
 
-// What it costs to change from the level of one spot to that of another.
-pub(crate) fn climb(price: u32, a: Spot, b: Spot) -> u64
+/// Whether the spot lies on a level of a lift.
+fn on_levels(spot: Spot) -> bool
+    ensures { λ r. ⌜ r ≡ (leZ (pos 0) (spot .level) && leZ (spot .level) (pos 15)) ⌝ }
+{
+    spot.level >= 0 && spot.level <= TOP
+}
+
+/// What it costs to change from the level of one spot to that of another.
+fn level_cost(price: u32, a: Spot, b: Spot) -> u64
     ensures { λ r. ⌜ r ≡ price * apart (a .level) (b .level) ⌝ }
 {
     price as u64 * a.level.abs_diff(b.level) as u64
 }
 
-// The spot z moved to the middle level of o, a and b.
-pub(crate) fn raise(z: Spot, o: Spot, a: Spot, b: Spot) -> Spot
-    ensures { λ r. ⌜ r ≡ raised z (middleOf (o .level) (a .level) (b .level)) ⌝ }
+/// The spot z moved to the middle level of o, a and b.
+fn at_middle_level(z: Spot, o: Spot, a: Spot, b: Spot) -> Spot
+    ensures { λ r. ⌜ r ≡ atLevel z (middleOf (o .level) (a .level) (b .level)) ⌝ }
 {
-    let level = middle(o.level, a.level, b.level);
-    Spot {
-        x: z.x,
-        y: z.y,
-        level,
-    }
+    z.at_level(middle(o.level, a.level, b.level))
 }
 
 pub impl<S: Space> Space for Lift<S> as LiftSpace {
@@ -53,27 +54,19 @@ pub impl<S: Space> Space for Lift<S> as LiftSpace {
     ghost between = { λ s. liftBetween (S·Space .between (s .below)) (s .price) };
 
     fn admits(&self, spot: Spot) -> bool {
-        if spot.level >= 0 && spot.level <= TOP {
-            self.below.admits(flatten(spot))
-        } else {
-            false
-        }
+        on_levels(spot) && self.below.admits(flatten(spot))
     }
 
     fn widest(&self) -> u64 {
-        self.below
-            .widest()
-            .saturating_add(TOP as u64 * self.price as u64)
+        self.below.widest().saturating_add(TOP as u64 * self.price as u64)
     }
 
     fn distance(&self, a: Spot, b: Spot) -> Option<u64> {
-        if !self.admits(a) || !self.admits(b) {
+        if !on_levels(a) || !on_levels(b) {
             return None;
         }
-        match self.below.distance(flatten(a), flatten(b)) {
-            Some(d) => Some(d.saturating_add(climb(self.price, a, b))),
-            None => None,
-        }
+        let below = self.below.distance(flatten(a), flatten(b))?;
+        Some(below.saturating_add(level_cost(self.price, a, b)))
     }
 }
 
@@ -85,7 +78,7 @@ pub impl<S: Joining> Joining for Lift<S> as LiftJoining {
             return None;
         }
         match self.below.meet(flatten(o), flatten(a), flatten(b)) {
-            Some(z) => Some(raise(z, o, a, b)),
+            Some(z) => Some(at_middle_level(z, o, a, b)),
             None => None,
         }
     }

@@ -19,17 +19,17 @@ across s h = leb-true _ _ (and-parts _ _ h .1)
 pub line-metric : Metric onLine 2000 lineBetween
 line-metric = record {
   itself = λ a h. apart-self (a .x);
-  either-way = λ a b h k. apart-swap (a .x) (b .x);
+  symmetric = λ a b h k. apart-swap (a .x) (b .x);
   triangle = λ a b c h k l. apart-by (a .x) (b .x) (c .x);
   within = λ a b h k. apart-within (a .x) (b .x) 1000 (across a h) (across b k);
 }
 
 pub line-meets : Meets onLine lineBetween lineMeeting
 line-meets = record {
-  stays = λ o a b h k l. and-from _ _ refl (le-leb _ _ (middle-within (o .x) (a .x) (b .x) 1000 (across o h) (across a k) (across b l)));
+  inside = λ o a b h k l. and-from _ _ refl (le-leb _ _ (middle-within (o .x) (a .x) (b .x) 1000 (across o h) (across a k) (across b l)));
   first = λ o a b h k l. middle-first (o .x) (a .x) (b .x);
   second = λ o a b h k l. middle-second (o .x) (a .x) (b .x);
-  ground = λ o a b h k l p q r. refl;
+  level-0 = λ o a b h k l p q r. refl;
 }
 
 vast-by : (far : ℕ) (a b c : Spot) → vastBetween far a c ≤ vastBetween far a b + vastBetween far b c
@@ -38,7 +38,7 @@ vast-by far a b c = let h = apart-by (a .x) (b .x) (c .x) in grind (arith, tells
 pub vast-metric : (far : ℕ) → Metric (λ _. true) far (vastBetween far)
 vast-metric far = record {
   itself = λ a h. let e = apart-self (a .x) in grind (arith, tells);
-  either-way = λ a b h k. ap (λ n. cond (eqb n 0) 0 far) (apart-swap (a .x) (b .x));
+  symmetric = λ a b h k. ap (λ n. cond (eqb n 0) 0 far) (apart-swap (a .x) (b .x));
   triangle = λ a b c h k l. vast-by far a b c;
   within = λ a b h k. grind (arith, tells);
 }

@@ -1,10 +1,10 @@
 // A line along x. Spots that differ in y alone are 0 apart, so two different spots may be 0 apart.
 ghost use mathlib.Core.Path.{_≡_};
-ghost use Rattle.space.specs.Shapes.{middle as middleOf};
 ghost use Rattle.space_tests.specs.Outside.{onLine, lineBetween, lineMeeting};
 use space::Joining;
 use space::Space;
 use space::Spot;
+use space::middle;
 
 #[derive(Clone, Copy)]
 pub struct Line;
@@ -15,13 +15,12 @@ fn on_line(spot: Spot) -> bool
     spot.level == 0 && spot.x.unsigned_abs() <= 1000
 }
 
-// The middle one of three numbers.
-fn middle(a: i32, b: i32, c: i32) -> i32
-    ensures { λ r. ⌜ r ≡ middleOf a b c ⌝ }
+/// From o the ways part at once where a and b lie on both sides, else at the nearer of the two.
+fn median(o: Spot, a: Spot, b: Spot) -> Spot
+    ensures { λ r. ⌜ r ≡ lineMeeting o a b ⌝ }
 {
-    let low = a.min(b);
-    let high = a.max(b);
-    low.max(high.min(c))
+    let x = middle(o.x, a.x, b.x);
+    Spot { x, y: o.y, level: 0 }
 }
 
 pub impl Space for Line as LineSpace {
@@ -51,7 +50,6 @@ pub impl Space for Line as LineSpace {
 pub impl Joining for Line as LineJoining {
     ghost meeting = { λ _ o a b. lineMeeting o a b };
 
-    // From o the ways part at once where a and b lie on both sides, else at the nearer of the two.
     fn meet(&self, o: Spot, a: Spot, b: Spot) -> Option<Spot> {
         if on_line(o) && on_line(a) && on_line(b) {
             let x = middle(o.x, a.x, b.x);

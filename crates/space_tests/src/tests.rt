@@ -14,16 +14,16 @@ use space::PlaneJoining;
 use space::PlaneSpace;
 use space::Space;
 use space::Spot;
-use space::spot::SpotDebug;
-use space::spot::SpotPartialEq;
+use space::SpotDebug;
+use space::SpotPartialEq;
 use std::test::*;
 
 fn at(x: i32, y: i32, level: i32) -> Spot {
     Spot { x, y, level }
 }
 
-// The sheet's ends, on plane and in the air alike.
-fn check_sheet<S: Space>(space: &S) -> Result<(), Fail> {
+// The ends of the range, of plane and of air alike.
+fn check_range<S: Space>(space: &S) -> Result<(), Fail> {
     check(space.admits(at(1_000_000, -1_000_000, 0)))?;
     check(space.admits(at(-1_000_000, 1_000_000, 0)))?;
     check(!space.admits(at(1_000_001, 0, 0)))?;
@@ -40,9 +40,9 @@ fn check_sheet<S: Space>(space: &S) -> Result<(), Fail> {
 }
 
 #[test]
-fn sheet_ends() -> Result<(), Fail> {
-    check_sheet(&Plane)?;
-    check_sheet(&Air)
+fn range_ends() -> Result<(), Fail> {
+    check_range(&Plane)?;
+    check_range(&Air)
 }
 
 #[test]
@@ -97,13 +97,13 @@ fn lift_prices() -> Result<(), Fail> {
     };
     check_eq(free.widest(), 4_000_000)?;
     check_eq(free.distance(at(1, 2, 0), at(1, 2, 15)), Some(0))?;
-    let dear = Lift {
+    let costly = Lift {
         below: Plane,
         price: 4_294_967_295,
     };
-    check_eq(dear.widest(), 64_428_509_425)?;
+    check_eq(costly.widest(), 64_428_509_425)?;
     check_eq(
-        dear.distance(at(0, 0, 15), at(1, 1, 0)),
+        costly.distance(at(0, 0, 15), at(1, 1, 0)),
         Some(64_424_509_427),
     )
 }
@@ -129,12 +129,12 @@ fn lift_sums_stop() -> Result<(), Fail> {
     };
     check_eq(past.widest(), u64::MAX)?;
     check_eq(past.distance(at(0, 0, 0), at(1, 0, 15)), Some(u64::MAX))?;
-    let dear = Lift {
+    let costly = Lift {
         below: vast,
         price: 4_294_967_295,
     };
-    check_eq(dear.widest(), u64::MAX)?;
-    check_eq(dear.distance(at(7, 0, 15), at(8, 0, 0)), Some(u64::MAX))
+    check_eq(costly.widest(), u64::MAX)?;
+    check_eq(costly.distance(at(7, 0, 15), at(8, 0, 0)), Some(u64::MAX))
 }
 
 #[test]

@@ -1,11 +1,11 @@
 -- A spot as a line of text: three decimal numbers parted by commas. Assumes nothing.
 use mathlib.Core.Path.{_≡_}
 use mathlib.Core.List.{List, _∷_, _++_}
-use Prim.Native.Nat.{ℕ}
+use Prim.Native.Nat.{ℕ, _^_, _<_}
 use lib.IntN.{ℤ}
 use mir.Syntax.{w32}
 use mir.Val.{SFits}
-use Rattle.std.specs.Reads.{Numeral, afterSign, signedValue}
+use Rattle.std.specs.Reads.{Numeral, afterPlus, afterSign, signedValue, value}
 use Rattle.std.specs.declared.option.Option.{Option}
 use Rattle.std.specs.declared.option.Option.the-variants.{None, Some}
 use Rattle.space.specs.declared.spot.Spot.{Spot}
@@ -15,6 +15,12 @@ pub record Writes (bs : List ℕ) (z : ℤ) : Type 0 where
   pub digits : Numeral 10 (afterSign bs)
   pub fits : SFits w32 (signedValue 10 bs)
   pub is : z ≡ signedValue 10 bs
+
+-- The bytes write the price c: one decimal digit or more, with or without a plus before them, in unsigned 32 bits.
+pub record WritesPrice (bs : List ℕ) (c : ℕ) : Type 0 where
+  pub digits : Numeral 10 (afterPlus bs)
+  pub fits : value 10 (afterPlus bs) < 2 ^ 32
+  pub is : c ≡ value 10 (afterPlus bs)
 
 -- The three texts write the numbers of the spot.
 pub record Numbers (first second third : List ℕ) (s : Spot) : Type 0 where

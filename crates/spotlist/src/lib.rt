@@ -1,5 +1,5 @@
 // Spots as text, one `x,y,level` a line.
-ghost use Rattle.spotlist.specs.Lines.{Read, Writes, Numbers, SpotLine};
+ghost use Rattle.spotlist.specs.Lines.{Read, Writes, WritesPrice, Numbers, SpotLine};
 use space::Spot;
 
 // The number that the text writes; nothing exactly when it writes none in signed 32 bits.
@@ -36,4 +36,11 @@ pub fn spot(line: &str) -> Option<Spot>
         return None;
     };
     three(first, second, third)
+}
+
+/// The price that the text writes; nothing exactly when it writes no number in unsigned 32 bits.
+pub fn price(text: &str) -> Option<u32>
+    ensures { λ r. ⌜ Read WritesPrice (now (text .entry)) r ⌝ }
+{
+    text.parse::<u32>().ok()
 }

@@ -1,6 +1,6 @@
 use native.Mathlib.Omega.{arith}
 use Rattle.std.proofs.shelf.Signed.{toZ-ofZ}
-use Rattle.space.proofs.lift.raise.Needs as need
+use Rattle.space.proofs.lift.at_middle_level.Needs as need
 
 pub returns : need.returns
 returns c = grind (arith, toZ-ofZ)

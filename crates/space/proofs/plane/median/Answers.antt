@@ -1,6 +1,6 @@
 use native.Mathlib.Omega.{arith}
 use Rattle.std.proofs.shelf.Signed.{toZ-ofZ}
-use Rattle.space.proofs.plane.parting.Needs as need
+use Rattle.space.proofs.plane.median.Needs as need
 
 pub returns : need.returns
 returns c = grind (arith, toZ-ofZ)
