@@ -24,16 +24,38 @@ fn ground(x: i32, y: i32) -> Spot {
 fn spaces() -> Result<(), Fail> {
     check_eq(worked_cases(), 9)?;
     let o = ground(0, 0);
-    check_eq(Plane.meet(o, ground(4, 3), ground(5, 1)), Some(ground(4, 1)))?;
+    check_eq(
+        Plane.meet(o, ground(4, 3), ground(5, 1)),
+        Some(ground(4, 1)),
+    )?;
     check_eq(Plane.meet(o, ground(-6, 0), ground(4, 1)), Some(o))?;
     check_eq(Air.distance(o, ground(1, 1)), Some(2))?;
     check_eq(Air.distance(o, ground(3, 4)), Some(5))?;
     check_eq(Air.distance(o, ground(2, 3)), Some(4))?;
-    let lift = Lift { below: Plane, price: 40 };
-    check_eq(lift.distance(o, Spot { x: 3, y: 4, level: 2 }), Some(87))?;
-    let fits = Lift { below: Plane, price: 6_400_000 };
+    let lift = Lift {
+        below: Plane,
+        price: 40,
+    };
+    check_eq(
+        lift.distance(
+            o,
+            Spot {
+                x: 3,
+                y: 4,
+                level: 2,
+            },
+        ),
+        Some(87),
+    )?;
+    let fits = Lift {
+        below: Plane,
+        price: 6_400_000,
+    };
     check(fits.widest() <= 100_000_000)?;
-    let wide = Lift { below: Plane, price: 6_400_001 };
+    let wide = Lift {
+        below: Plane,
+        price: 6_400_001,
+    };
     check(wide.widest() > 100_000_000)
 }
 

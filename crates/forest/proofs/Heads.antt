@@ -196,16 +196,17 @@ heads-few f l (suc n) h =
     let e : f n ≡ l = h n (omega arith) in
     ⊎-elim
     (λ (p : f n ≡ n).
-        let low : n ≤ l = omega arith in
-        let goal : (suc n ≤ l → one f n + heads f n ≡ 0) × (one f n + heads f n ≤ 1) = (λ k. absurd (past n l k (sym p ∙ e)), omega (arith, one-yes f n p, r .0 low)) in
-        goal)
+    let low : n ≤ l = omega arith in
+    let goal : (suc n ≤ l → one f n + heads f n ≡ 0) × (one f n + heads f n ≤ 1) = (λ k. absurd (past n l k (sym p ∙ e)), omega (arith, one-yes f n p, r .0 low)) in
+    goal)
     (λ (p : f n ≡ n → ⊥).
-        let goal : (suc n ≤ l → one f n + heads f n ≡ 0) × (one f n + heads f n ≤ 1) = (λ k. omega (arith, one-no f n p, r .0 (under n l k)), omega (arith, one-no f n p, r .1)) in
-        goal)
+    let goal : (suc n ≤ l → one f n + heads f n ≡ 0) × (one f n + heads f n ≤ 1) = (λ k. omega (arith, one-no f n p, r .0 (under n l k)), omega (arith, one-no f n p, r .1)) in
+    goal)
     (cases-eq (f n) n)
   where
     past : (n l : ℕ) → suc n ≤ l → n ≡ l → ⊥
     past n l k e = omega arith
+
     under : (n l : ℕ) → suc n ≤ l → n ≤ l
     under n l k = omega arith
 

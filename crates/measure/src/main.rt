@@ -41,7 +41,10 @@ fn run(rt: &LibcRuntime) -> Result<(), AnyError> {
     distances(rt, &Air, &spots)?;
     spanning(rt, &Air, &spots, &mut spanner, &mut seed)?;
     println!(rt, "lift over plane, price {price}")?;
-    let lift = Lift { below: Plane, price };
+    let lift = Lift {
+        below: Plane,
+        price,
+    };
     distances(rt, &lift, &spots)?;
     meets(rt, &lift, &spots)?;
     spanning(rt, &lift, &spots, &mut spanner, &mut seed)?;

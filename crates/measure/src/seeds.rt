@@ -35,14 +35,23 @@ fn pins<S: Space>(rt: &LibcRuntime, space: &S, spots: &[Spot]) -> io::Result<Vec
             pins.push(*spot)?;
         } else {
             let spot = shown(rt.alloc(), *spot)?;
-            println!(rt, "  {spot} left out of the seed: closer than 1 to an earlier spot")?;
+            println!(
+                rt,
+                "  {spot} left out of the seed: closer than 1 to an earlier spot"
+            )?;
         }
     }
     Ok(pins)
 }
 
 /// The wire of the spanning seed, where the space admits every spot and is not too wide.
-pub fn spanning<S: Space>(rt: &LibcRuntime, space: &S, spots: &[Spot], spanner: &mut Spanner, seed: &mut Seed) -> io::Result<()> {
+pub fn spanning<S: Space>(
+    rt: &LibcRuntime,
+    space: &S,
+    spots: &[Spot],
+    spanner: &mut Spanner,
+    seed: &mut Seed,
+) -> io::Result<()> {
     if !all_admitted(space, spots) {
         return println!(rt, "  no spanning seed: not every spot is admitted");
     }

@@ -18,13 +18,13 @@ pub use air::AirSpace;
 pub use lift::Lift;
 pub use lift::LiftJoining;
 pub use lift::LiftSpace;
+pub use middle_one::middle;
 pub use plane::Plane;
 pub use plane::PlaneJoining;
 pub use plane::PlaneSpace;
 pub use spot::Spot;
 pub use spot::SpotDebug;
 pub use spot::SpotPartialEq;
-pub use middle_one::middle;
 
 // A wiring space. `admitted`, `width` and `between` are what it means; each call answers its part of that meaning and
 // changes nothing. The law is owed whenever the space is at most 100,000,000 wide.

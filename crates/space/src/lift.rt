@@ -58,7 +58,9 @@ pub impl<S: Space> Space for Lift<S> as LiftSpace {
     }
 
     fn widest(&self) -> u64 {
-        self.below.widest().saturating_add(TOP as u64 * self.price as u64)
+        self.below
+            .widest()
+            .saturating_add(TOP as u64 * self.price as u64)
     }
 
     fn distance(&self, a: Spot, b: Spot) -> Option<u64> {

@@ -14,6 +14,10 @@ impl Spot {
     pub fn at_level(self, level: i32) -> Spot
         ensures { λ r. ⌜ r ≡ atLevel self level ⌝ }
     {
-        Spot { x: self.x, y: self.y, level }
+        Spot {
+            x: self.x,
+            y: self.y,
+            level,
+        }
     }
 }

@@ -20,7 +20,11 @@ fn median(o: Spot, a: Spot, b: Spot) -> Spot
     ensures { λ r. ⌜ r ≡ lineMeeting o a b ⌝ }
 {
     let x = middle(o.x, a.x, b.x);
-    Spot { x, y: o.y, level: 0 }
+    Spot {
+        x,
+        y: o.y,
+        level: 0,
+    }
 }
 
 pub impl Space for Line as LineSpace {

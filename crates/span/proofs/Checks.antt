@@ -56,10 +56,10 @@ first-by n d E x p h = record {
       ⊎-elim
       (λ (a : eqb (labelOf E 0) (labelOf E (y .v)) ≡ true). absurd (q .outside (label-joined E 0 (y .v) (eqb-true _ _ a))))
       (λ (b : (not (eqb (labelOf E 0) (labelOf E (y .u))) || not (linkBefore (link d (y .u) (y .v)) x)) ≡ true).
-          ⊎-elim
-          (λ (a : not (eqb (labelOf E 0) (labelOf E (y .u))) ≡ true). absurd (both-ways _ (not-true _ a) (eq-eqb _ _ (joined-label (q .inside)))))
-          (λ (a : not (linkBefore (link d (y .u) (y .v)) x) ≡ true). subst P named (not-true _ a))
-          (or-cases _ _ b))
+      ⊎-elim
+      (λ (a : not (eqb (labelOf E 0) (labelOf E (y .u))) ≡ true). absurd (both-ways _ (not-true _ a) (eq-eqb _ _ (joined-label (q .inside)))))
+      (λ (a : not (linkBefore (link d (y .u) (y .v)) x) ≡ true). subst P named (not-true _ a))
+      (or-cases _ _ b))
       (or-cases _ _ here);
 }
   where

@@ -76,7 +76,7 @@ module _ (n : ℕ) (d : ℕ → ℕ → ℕ) (fair : Fair d) (t u : Seed) (F : L
       let P : List Edge → Type 0 = λ D. Steps n d D × Firsts n d D L × Alone D in
       let Q : List Link → Type 0 = λ M. Firsts n d (E ++ x ∷ []) M in
       let more : P (E ++ x ∷ []) =
-          (steps-more n d E x (g .steps) found, subst Q (sym e) (firsts-more n d E F (g .firsts) w f (g .alone)), alone-more n d E F (g .firsts) w f (g .alone))
+      (steps-more n d E x (g .steps) found, subst Q (sym e) (firsts-more n d E F (g .firsts) w f (g .alone)), alone-more n d E F (g .firsts) w f (g .alone))
       in
       let h : P (edgesOf u) = subst P (sym (taken .0)) more in
       (record { nodes = taken .1 ∙ g .nodes; steps = h .0; firsts = h .1; alone = h .2 }, ap length (taken .0) ∙ length-push E x)

@@ -33,11 +33,11 @@ pub first-better : (x y z : Link) → First linkBefore (x ∷ y ∷ []) z → z 
 first-better x y z h =
     ⊎-elim
     (λ (e : linkBefore y x ≡ true).
-        let f : First linkBefore (x ∷ y ∷ []) y = first-takes link-order (first-one link-order x) e in
-        first-unique link-order h f ∙ ap (λ b. cond b y x) (sym e))
+    let f : First linkBefore (x ∷ y ∷ []) y = first-takes link-order (first-one link-order x) e in
+    first-unique link-order h f ∙ ap (λ b. cond b y x) (sym e))
     (λ (e : linkBefore y x ≡ false).
-        let f : First linkBefore (x ∷ y ∷ []) x = first-keeps link-order (first-one link-order x) e in
-        first-unique link-order h f ∙ ap (λ b. cond b y x) (sym e))
+    let f : First linkBefore (x ∷ y ∷ []) x = first-keeps link-order (first-one link-order x) e in
+    first-unique link-order h f ∙ ap (λ b. cond b y x) (sym e))
     (cases-bool (linkBefore y x))
 
 -- neither of two links comes before the better one, whatever the test says
@@ -65,12 +65,12 @@ among-kept p (y ∷ F) x m =
     let Q : Bool → Type 0 = λ b. Among x (cond b (y ∷ kept-by p F) (kept-by p F)) in
     ⊎-elim
     (λ (e : p y ≡ true).
-        ⊎-elim
-        (λ (k : Among x (y ∷ [])).
-            let i : x ≡ y = among-one k in
-            (subst (λ (z : Link). Among x (z ∷ F)) i here, ap p i ∙ e))
-        (λ (k : Among x (kept-by p F)). let r = among-kept p F x k in (there (r .0), r .1))
-        (among-either (y ∷ []) (kept-by p F) (subst Q e m)))
+    ⊎-elim
+    (λ (k : Among x (y ∷ [])).
+    let i : x ≡ y = among-one k in
+    (subst (λ (z : Link). Among x (z ∷ F)) i here, ap p i ∙ e))
+    (λ (k : Among x (kept-by p F)). let r = among-kept p F x k in (there (r .0), r .1))
+    (among-either (y ∷ []) (kept-by p F) (subst Q e m)))
     (λ (e : p y ≡ false). let r = among-kept p F x (subst Q e m) in (there (r .0), r .1))
     (cases-bool (p y))
 
@@ -128,19 +128,19 @@ module _ (n : ℕ) (d : ℕ → ℕ → ℕ) (E : List Edge) (F : List Link) (fs
     inside-before p x (step {b} near rest) h =
         inside-before b x rest
         (⊎-elim
-            (λ (k : Near E p b _).
-                ⊎-elim
-                (λ (i : Joined E 0 p). inl (joined-on i (joined-one k)))
-                (λ (i : p ≡ w .v).
-                    let P : ℕ → Type 0 = λ z. Joined E z b in
-                    inr (alone (w .v) b (pin .outside) (subst P i (joined-one k))))
-                h)
-            (λ (k : Newly new p b _).
-                ⊎-elim
-                (λ (q : (w .u ≡ p) × (w .v ≡ b)). inr (sym (q .1)))
-                (λ (q : (w .u ≡ b) × (w .v ≡ p)). let P : ℕ → Type 0 = λ z. Joined E 0 z in inl (subst P (q .0) (pin .inside)))
-                (k .0))
-            (near-cases E new near))
+        (λ (k : Near E p b _).
+        ⊎-elim
+        (λ (i : Joined E 0 p). inl (joined-on i (joined-one k)))
+        (λ (i : p ≡ w .v).
+        let P : ℕ → Type 0 = λ z. Joined E z b in
+        inr (alone (w .v) b (pin .outside) (subst P i (joined-one k))))
+        h)
+        (λ (k : Newly new p b _).
+        ⊎-elim
+        (λ (q : (w .u ≡ p) × (w .v ≡ b)). inr (sym (q .1)))
+        (λ (q : (w .u ≡ b) × (w .v ≡ p)). let P : ℕ → Type 0 = λ z. Joined E 0 z in inl (subst P (q .0) (pin .inside)))
+        (k .0))
+        (near-cases E new near))
 
     inside-split : (x : ℕ) → Joined (E ++ new ∷ []) 0 x → Joined E 0 x ⊎ (x ≡ w .v)
     inside-split x j = inside-before 0 x j (inl same)
@@ -154,13 +154,13 @@ module _ (n : ℕ) (d : ℕ → ℕ → ℕ) (E : List Edge) (F : List Link) (fs
         let P : ℕ → Type 0 = λ z. Joined E z b in
         alone-on v out b x
         (⊎-elim
-            (λ (k : Near E p b _). alone v b (λ j. out (joined-push new j)) (subst P e (joined-one k)))
-            (λ (k : Newly new p b _).
-                ⊎-elim
-                (λ (q : (w .u ≡ p) × (w .v ≡ b)). let Q : ℕ → Type 0 = λ z. Joined (E ++ new ∷ []) 0 z in absurd (out (subst Q (q .0 ∙ e) (joined-push new (pin .inside)))))
-                (λ (q : (w .u ≡ b) × (w .v ≡ p)). let Q : ℕ → Type 0 = λ z. Joined (E ++ new ∷ []) 0 z in absurd (out (subst Q (q .1 ∙ e) new-inside)))
-                (k .0))
-            (near-cases E new near))
+        (λ (k : Near E p b _). alone v b (λ j. out (joined-push new j)) (subst P e (joined-one k)))
+        (λ (k : Newly new p b _).
+        ⊎-elim
+        (λ (q : (w .u ≡ p) × (w .v ≡ b)). let Q : ℕ → Type 0 = λ z. Joined (E ++ new ∷ []) 0 z in absurd (out (subst Q (q .0 ∙ e) (joined-push new (pin .inside)))))
+        (λ (q : (w .u ≡ b) × (w .v ≡ p)). let Q : ℕ → Type 0 = λ z. Joined (E ++ new ∷ []) 0 z in absurd (out (subst Q (q .1 ∙ e) new-inside)))
+        (k .0))
+        (near-cases E new near))
         rest
 
     pub alone-more : Alone (E ++ new ∷ [])
@@ -185,18 +185,18 @@ module _ (n : ℕ) (d : ℕ → ℕ → ℕ) (E : List Edge) (F : List Link) (fs
         let out : Joined (E ++ new ∷ []) 0 (s .old .v) → ⊥ = λ j. ⊎-elim (p .outside) (s .other) (inside-split (s .old .v) j) in
         subst (Pair n d (E ++ new ∷ [])) (sym (s .is))
         (better-cases (Pair n d (E ++ new ∷ [])) (s .old) (link d (w .v) (s .old .v))
-            (λ _. record { inner = pin .outer; inside = new-inside; outer = p .outer; outside = out; long = refl })
-            (λ _. record { inner = p .inner; inside = joined-push new (p .inside); outer = p .outer; outside = out; long = p .long }))
+        (λ _. record { inner = pin .outer; inside = new-inside; outer = p .outer; outside = out; long = refl })
+        (λ _. record { inner = p .inner; inside = joined-push new (p .inside); outer = p .outer; outside = out; long = p .long }))
 
     stays-first : (y : Link) → Stays y → (u : ℕ) → u < n → Joined (E ++ new ∷ []) 0 u → linkBefore (link d u (y .v)) y ≡ false
     stays-first y s u h j =
         let x = s .old in
         let z = offered d (w .v) x in
         let at-z : linkBefore (link d u (x .v)) z ≡ false =
-            ⊎-elim
-            (λ (i : Joined E 0 u). not-before link-order (link d u (x .v)) x z (fs .firsts x (s .stood) u h i) (old-after x (link d (w .v) (x .v))))
-            (λ (i : u ≡ w .v). let P : ℕ → Type 0 = λ k. linkBefore (link d k (x .v)) z ≡ false in subst P (sym i) (new-after x (link d (w .v) (x .v))))
-            (inside-split u j)
+        ⊎-elim
+        (λ (i : Joined E 0 u). not-before link-order (link d u (x .v)) x z (fs .firsts x (s .stood) u h i) (old-after x (link d (w .v) (x .v))))
+        (λ (i : u ≡ w .v). let P : ℕ → Type 0 = λ k. linkBefore (link d k (x .v)) z ≡ false in subst P (sym i) (new-after x (link d (w .v) (x .v))))
+        (inside-split u j)
         in
         let P : Link → Type 0 = λ t. linkBefore (link d u (t .v)) t ≡ false in
         let Q : ℕ → Type 0 = λ k. linkBefore (link d u k) z ≡ false in
@@ -263,10 +263,10 @@ pub firsts-none : (n : ℕ) (d : ℕ → ℕ → ℕ) (E : List Edge) → Accept
 firsts-none n d E a h fs =
     one-part a h
     (λ v k.
-        ⊎-elim
-        (λ (e : labelOf E v ≡ labelOf E 0). e)
-        (λ (ne : labelOf E v ≡ labelOf E 0 → ⊥). absurd (among-none (fs .all v k (λ j. ne (sym (joined-label j))) .1)))
-        (cases-eq (labelOf E v) (labelOf E 0)))
+    ⊎-elim
+    (λ (e : labelOf E v ≡ labelOf E 0). e)
+    (λ (ne : labelOf E v ≡ labelOf E 0 → ⊥). absurd (among-none (fs .all v k (λ j. ne (sym (joined-label j))) .1)))
+    (cases-eq (labelOf E v) (labelOf E 0)))
 
 -- ---- the steps so far
 
@@ -280,14 +280,14 @@ pub steps-more : (n : ℕ) (d : ℕ → ℕ → ℕ) (E : List Edge) (e : Edge) 
 steps-more n d E e s f i x h =
     ⊎-elim
     (λ (k : i < length E).
-        let p : take i (E ++ e ∷ []) ≡ take i E = take-append-le i E (e ∷ []) (omega arith) in
-        let q : getD (E ++ e ∷ []) i x ≡ getD E i x = getD-append-left E (e ∷ []) x i k in
-        rw (p, q) (s i x k))
+    let p : take i (E ++ e ∷ []) ≡ take i E = take-append-le i E (e ∷ []) (omega arith) in
+    let q : getD (E ++ e ∷ []) i x ≡ getD E i x = getD-append-left E (e ∷ []) x i k in
+    rw (p, q) (s i x k))
     (λ (k : length E ≤ i).
-        let j : i ≡ length E = omega (arith, length-push E e) in
-        let p : take i (E ++ e ∷ []) ≡ E = take-append-le i E (e ∷ []) (omega arith) ∙ take-all i E (omega arith) in
-        let q : getD (E ++ e ∷ []) i x ≡ e = getD-push E e x i (sym j) in
-        rw (p, q) f)
+    let j : i ≡ length E = omega (arith, length-push E e) in
+    let p : take i (E ++ e ∷ []) ≡ E = take-append-le i E (e ∷ []) (omega arith) ∙ take-all i E (omega arith) in
+    let q : getD (E ++ e ∷ []) i x ≡ e = getD-push E e x i (sym j) in
+    rw (p, q) f)
     (cases-lt i (length E))
 
 pub spanning : (n : ℕ) (d : ℕ → ℕ → ℕ) (E : List Edge) → Steps n d E → length E + 1 ≡ n → Spanning n d E
@@ -336,7 +336,7 @@ fronts-agree n d E D z s t e (suc i) h =
     let before : take i E ≡ take i D = fronts-agree n d E D z s t e i (omega arith) in
     let P : List Edge → Type 0 = λ F. FirstPair n d F (linkOf (getD E i z)) in
     let same-edge : getD E i z ≡ getD D i z =
-        edge-of (getD E i z) (getD D i z) (first-pair-only n d (take i D) _ _ (subst P before (s i z le)) (t i z (omega arith)))
+    edge-of (getD E i z) (getD D i z) (first-pair-only n d (take i D) _ _ (subst P before (s i z le)) (t i z (omega arith)))
     in
     ap (λ k. take k E) (sym (add-one i)) ∙ take-more E i z le ∙ ap (λ F. F ++ getD E i z ∷ []) before
     ∙ ap (λ x. take i D ++ x ∷ []) same-edge ∙ sym (take-more D i z (omega arith)) ∙ ap (λ k. take k D) (add-one i)

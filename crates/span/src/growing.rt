@@ -48,7 +48,12 @@ impl Spanner {
 
     /// Grows the spanning seed of the pins in place of what the seed had, and answers its wire. Refused, with the seed as it was, where there
     /// is no pin or there are more than a seed can have nodes.
-    pub fn grow<S: Space>(&mut self, space: &S, pins: &[Spot], seed: &mut Seed) -> Result<u64, Refusal>
+    pub fn grow<S: Space>(
+        &mut self,
+        space: &S,
+        pins: &[Spot],
+        seed: &mut Seed,
+    ) -> Result<u64, Refusal>
         ensures { λ r. ⌜ Grown S·Space (now (space .entry)) (now (pins .entry)) (now (seed .entry)) r (now (seed .exit)) ⌝ }
     {
         if pins.is_empty() {

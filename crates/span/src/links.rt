@@ -29,7 +29,15 @@ fn length_between<S: Space>(space: &S, a: Spot, b: Spot) -> u64
 fn spot_of(pins: &[Spot], v: usize) -> Spot
     ensures { λ r. ⌜ r ≡ spotOf (now (pins .entry)) v ⌝ }
 {
-    if v < pins.len() { pins[v] } else { Spot { x: 0, y: 0, level: 0 } }
+    if v < pins.len() {
+        pins[v]
+    } else {
+        Spot {
+            x: 0,
+            y: 0,
+            level: 0,
+        }
+    }
 }
 
 /// The link of two pins.

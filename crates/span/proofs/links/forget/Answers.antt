@@ -14,13 +14,13 @@ pub loop-i-again : need.loop-i-again
 loop-i-again c =
     let ys = vec-items (c .loop-i .links) in
     let h : c .loop-i .i < length ys = omega (arith, c .loop-i .links .ok .0, c .loop-i .inv .0 .long, c .args .links .now .ok .0) in
-    elim (c .if-link-v .came)
-    [ then-link-v w ↦
-        let p = not-from-false _ (ne-eqb _ _ (w .if-link-v .taken)) in
-        rw (w .links-is, w .filled-is) (keeping-more-set (c .loop-i .inv .0) h p (c .index-link .ensures), c .loop-i .inv .1)
-    | else-link-v w ↦
-        let p = not-from-true _ (eq-eqb _ _ (w .if-link-v .left)) in
-        rw (w .links-is, w .filled-is) (keeping-more-no (c .loop-i .inv .0) h p (c .index-link .ensures), c .loop-i .inv .1)
+    elim (c .if-link-v .came) [
+      | then-link-v w ↦
+          let p = not-from-false _ (ne-eqb _ _ (w .if-link-v .taken)) in
+          rw (w .links-is, w .filled-is) (keeping-more-set (c .loop-i .inv .0) h p (c .index-link .ensures), c .loop-i .inv .1)
+      | else-link-v w ↦
+          let p = not-from-true _ (eq-eqb _ _ (w .if-link-v .left)) in
+          rw (w .links-is, w .filled-is) (keeping-more-no (c .loop-i .inv .0) h p (c .index-link .ensures), c .loop-i .inv .1)
     ]
 
 pub returns : need.returns
