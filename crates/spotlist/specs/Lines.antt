@@ -16,11 +16,19 @@ pub record Writes (bs : List ℕ) (z : ℤ) : Type 0 where
   pub fits : SFits w32 (signedValue 10 bs)
   pub is : z ≡ signedValue 10 bs
 
--- The bytes write the price c: one decimal digit or more, with or without a plus before them, in unsigned 32 bits.
-pub record WritesPrice (bs : List ℕ) (c : ℕ) : Type 0 where
+-- The bytes write the number n: one decimal digit or more, with or without a plus before them, in unsigned 32 bits.
+pub record WritesNatural (bs : List ℕ) (n : ℕ) : Type 0 where
   pub digits : Numeral 10 (afterPlus bs)
   pub fits : value 10 (afterPlus bs) < 2 ^ 32
-  pub is : c ≡ value 10 (afterPlus bs)
+  pub is : n ≡ value 10 (afterPlus bs)
+
+-- The bytes are two such numbers with a slash (47) between them.
+pub record Ratio (bs : List ℕ) (x : ℕ × ℕ) : Type 0 where
+  pub first : List ℕ
+  pub second : List ℕ
+  pub parted : bs ≡ first ++ (47 ∷ second)
+  pub over : WritesNatural first (x .0)
+  pub under : WritesNatural second (x .1)
 
 -- The three texts write the numbers of the spot.
 pub record Numbers (first second third : List ℕ) (s : Spot) : Type 0 where

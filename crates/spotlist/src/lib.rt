@@ -1,5 +1,5 @@
 // Spots as text, one `x,y,level` a line.
-ghost use Rattle.spotlist.specs.Lines.{Read, Writes, WritesPrice, Numbers, SpotLine};
+ghost use Rattle.spotlist.specs.Lines.{Read, Writes, WritesNatural, Numbers, Ratio, SpotLine};
 use space::Spot;
 
 // The number that the text writes; nothing exactly when it writes none in signed 32 bits.
@@ -38,9 +38,25 @@ pub fn spot(line: &str) -> Option<Spot>
     three(first, second, third)
 }
 
-/// The price that the text writes; nothing exactly when it writes no number in unsigned 32 bits.
+/// The number that the text writes, as a price is; nothing exactly when it writes no number in unsigned 32 bits.
 pub fn price(text: &str) -> Option<u32>
-    ensures { λ r. ⌜ Read WritesPrice (now (text .entry)) r ⌝ }
+    ensures { λ r. ⌜ Read WritesNatural (now (text .entry)) r ⌝ }
 {
     text.parse::<u32>().ok()
+}
+
+/// The two numbers of a text `p/q`; nothing exactly when it is not two numbers in unsigned 32 bits with a slash between them.
+pub fn ratio(text: &str) -> Option<(u32, u32)>
+    ensures { λ r. ⌜ Read Ratio (now (text .entry)) r ⌝ }
+{
+    let Some((first, second)) = text.split_once('/') else {
+        return None;
+    };
+    let Some(p) = price(first) else {
+        return None;
+    };
+    let Some(q) = price(second) else {
+        return None;
+    };
+    Some((p, q))
 }
