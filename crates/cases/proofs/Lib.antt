@@ -1,2 +1,4 @@
+mod Chain
 mod Rows
 mod Square
+mod Walks

@@ -2,14 +2,16 @@
 -- meaning of the spaces as they are implemented, which is what their calls are proved to answer. Assumes nothing.
 use mathlib.Core.Path.{_≡_}
 use mathlib.Core.Bool.{Bool, true, false, _&&_}
-use mathlib.Core.List.{List, [], _∷_}
-use Prim.Native.Nat.{ℕ}
+use mathlib.Core.List.{List, [], _∷_, _++_}
+use Prim.Native.Nat.{ℕ, zero, suc, _-_, _<_}
 use lib.Dec.{leb}
 use lib.IntN.{ℤ, pos, negsuc}
-use lib.ListN.{length}
+use lib.ListN.{length, getD}
 use Rattle.std.specs.declared.option.Option.{Option}
 use Rattle.std.specs.declared.option.Option.the-variants.{Some}
-use Rattle.forest.specs.Edges.{wire}
+use Rattle.forest.specs.Edges.{Sound, wire}
+use Rattle.forest.specs.Growth.{Grows}
+use Rattle.forest.specs.Rooted.{Forest}
 use Rattle.forest.specs.declared.Edge.{Edge}
 use Rattle.seed.specs.Seeds.{edge}
 use Rattle.space.specs.Laws.{answered, limit}
@@ -25,6 +27,7 @@ use Rattle.space.specs.contracts.plane.PlaneJoining.the-impl as planeJoining
 use Rattle.space.specs.contracts.plane.PlaneSpace.the-impl as planeSpace
 use Rattle.span.specs.Lengths.{Pinned, distanceOf}
 use Rattle.span.specs.Spanning.{Spanning}
+use Rattle.walk_laws.specs.Walk.{Mark, Rules, blank, home, hung, start, walk}
 
 abbrev pub plane : Plane
 plane = record {}
@@ -62,6 +65,8 @@ pub data Fact : Type 0 where
   lift-fits : (price : ℕ) (answer : Bool) → Fact
   -- on plane, the spanning seed of the pins takes these edges in this order, and its wire is w
   plane-spans : (pins : List Spot) (edges : List Edge) (w : ℕ) → Fact
+  -- on plane, with a seed that joins each pin with the next and the allowance p/q, the walk leaves these marks at the pins
+  plane-walks : (pins : List Spot) (p q : ℕ) (marks : List Mark) → Fact
 
 -- The pins are such as a net can have, the edges are their spanning seed and the only one, and w is their wire.
 pub record PlaneSpans (pins : List Spot) (edges : List Edge) (w : ℕ) : Type 0 where
@@ -70,11 +75,26 @@ pub record PlaneSpans (pins : List Spot) (edges : List Edge) (w : ℕ) : Type 0 
   pub only : (E : List Edge) → Spanning (length pins) (distanceOf planeSpace.ghosts plane pins) E → E ≡ edges
   pub wired : wire edges ≡ w
 
+-- The edges 0-1, 1-2, .. up to the node k, with d as the length of an edge.
+abbrev pub chain : (ℕ → ℕ → ℕ) → (k : ℕ) → List Edge
+chain d zero = []
+chain d (suc k) = chain d k ++ edge k (suc k) (d k (suc k)) ∷ []
+
+-- The allowance p/q and the direct distances of the pins.
+abbrev pub rules : List Spot → (p q : ℕ) → Rules
+rules pins p q = record { p = p; q = q; pins = length pins; direct = distanceOf planeSpace.ghosts plane pins 0 }
+
+-- A seed takes the edges of the chain, and the walk over the forest that they are seen from the driver leaves the marks.
+pub record PlaneWalks (pins : List Spot) (p q : ℕ) (marks : List Mark) : Type 0 where
+  pub seed : Sound (length pins) (chain (distanceOf planeSpace.ghosts plane pins) (length pins - 1))
+  pub walked : (F : Forest) → Grows (chain (distanceOf planeSpace.ghosts plane pins) (length pins - 1)) 0 0 0 F → (v : ℕ) → v < length pins → walk (rules pins p q) 0 F start v ≡ getD marks v blank
+
 abbrev pub Holds : Fact → Type 0
 Holds (plane-meets o a b z) = plane-meet o a b ≡ Some z
 Holds (air-measures a b d) = distance airSpace.ghosts air a b ≡ Some d
 Holds (lift-measures price a b d) = distance lift-ghosts (over-plane price) a b ≡ Some d
 Holds (plane-spans pins edges w) = PlaneSpans pins edges w
+Holds (plane-walks pins p q marks) = PlaneWalks pins p q marks
 Holds (lift-fits price answer) = leb (lift-ghosts .width (over-plane price)) limit ≡ answer
 
 abbrev pub origin : Spot
@@ -87,6 +107,13 @@ square = origin ∷ (at (pos 6) (pos 0) (pos 0) ∷ (at (pos 6) (pos 6) (pos 0) 
 abbrev pub square-seed : List Edge
 square-seed = edge 0 1 6 ∷ (edge 0 3 6 ∷ (edge 1 2 6 ∷ []))
 
+-- Three pins of which the last lies on the way to the second, and four of which the last two lie close together.
+abbrev pub corner : List Spot
+corner = origin ∷ (at (pos 5) (pos 5) (pos 0) ∷ (at (pos 5) (pos 0) (pos 0) ∷ []))
+
+abbrev pub fork : List Spot
+fork = origin ∷ (at (negsuc 5) (pos 0) (pos 0) ∷ (at (pos 4) (pos 3) (pos 0) ∷ (at (pos 5) (pos 1) (pos 0) ∷ [])))
+
 abbrev pub table : List Fact
 table =
     plane-meets origin (at (pos 4) (pos 3) (pos 0)) (at (pos 5) (pos 1) (pos 0)) (at (pos 4) (pos 1) (pos 0))
@@ -98,4 +125,8 @@ table =
     ∷ (lift-fits 6400000 true
     ∷ (lift-fits 6400001 false
     ∷ (plane-spans square square-seed 18
-    ∷ []))))))))
+    ∷ (plane-walks square 2 1 (home ∷ hung 0 6 6 false ∷ hung 1 6 12 false ∷ hung 2 6 18 false ∷ [])
+    ∷ (plane-walks square 199 100 (home ∷ hung 0 6 6 false ∷ hung 1 6 12 false ∷ hung 2 6 6 true ∷ [])
+    ∷ (plane-walks corner 0 1 (home ∷ hung 2 5 10 false ∷ hung 1 5 5 true ∷ [])
+    ∷ (plane-walks fork 0 1 (home ∷ hung 0 6 6 false ∷ hung 1 13 7 true ∷ hung 2 3 6 true ∷ [])
+    ∷ []))))))))))))

@@ -115,3 +115,16 @@ least-of-head a v w c (kid u l B R) None (grown k s t) h = absurd (h u l (k .nea
 least-of-head a v w c (kid u l B R) (Some p) (grown k s t) h =
     let q = least-unique a v w c (p .0) (p .1) u l h k in
     ap (λ x. Some (x, p .1)) (q .0) ∙ ap (λ y. Some (u, y)) (q .1)
+
+-- the edges seen from a node are one forest only
+pub grows-only : {n : ℕ} {E : List Edge} → Accepted n E → {v w c : ℕ} {F G : Forest} → Grows E v w c F → Grows E v w c G → F ≡ G
+grows-only a (bare p) (bare q) = refl
+grows-only a (bare p) (grown {u} {l} k s t) = absurd (p u l (k .near) (k .from) (k .other))
+grows-only a (grown {u} {l} k s t) (bare q) = absurd (q u l (k .near) (k .from) (k .other))
+grows-only {n} {E} a {v} {w} {c} (grown {u} {l} {below} {others} k s t) (grown {u = x} {l = m} {below = lower} {others = rest} k′ s′ t′) =
+    let q = least-unique a v w c u l x m k k′ in
+    let P : ℕ → Type 0 = λ z. Grows E z v 0 lower in
+    let Q : ℕ → Type 0 = λ z. Grows E v w (z + 1) rest in
+    let one : below ≡ lower = grows-only a s (subst P (sym (q .0)) s′) in
+    let two : others ≡ rest = grows-only a t (subst Q (sym (q .0)) t′) in
+    ap (λ z. kid z l below others) (q .0) ∙ ap (λ z. kid x z below others) (q .1) ∙ ap (λ z. kid x m z others) one ∙ ap (λ z. kid x m lower z) two

@@ -1,0 +1,13 @@
+pub mod Steps
+pub mod Branches
+pub mod Sums
+pub mod Rows
+pub mod Standing
+pub mod Wire
+pub mod Spare
+pub mod Climbs
+pub mod Keeps
+pub mod Bounds
+pub mod Trails
+pub mod Planting
+pub mod Looping

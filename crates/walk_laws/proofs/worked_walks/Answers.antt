@@ -1,0 +1,11 @@
+use mathlib.Core.Path.{refl}
+use Rattle.walk_laws.specs.Walk.{walk}
+use Rattle.walk_laws.proofs.worked_walks.Needs as need
+
+pub returns : need.returns
+unfolding walk
+returns c =
+    record {
+      worked =
+          record { square-within = refl; square-beyond = refl; square-steiner = refl; turned = refl; two-breaks = refl; branched = refl };
+    }

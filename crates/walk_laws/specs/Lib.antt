@@ -1,0 +1,4 @@
+pub mod Walk
+pub mod Promise
+pub mod Trail
+pub mod Worked
