@@ -1,12 +1,20 @@
 -- The spanning seed of the square. Assumes nothing.
-use mathlib.Core.Path.{_≡_, refl}
+use mathlib.Core.Path.{_≡_, refl, ap, _∙_}
 use mathlib.Core.Bool.{Bool, true, _||_}
 use mathlib.Core.Logic.{⊎-elim}
 use Prim.Native.Nat.{ℕ, zero, suc, _<_, _≤_}
 use native.Mathlib.Omega.{arith}
 use lib.Dec.{eqb, leb}
 use Rattle.std.proofs.shelf.Tests.{eqb-true, leb-true, or-cases}
+use Rattle.std.specs.declared.result.Result.{Result}
+use Rattle.std.specs.declared.result.Result.the-variants.{Ok, Err}
+use Rattle.forest.specs.Edges.{wire}
 use Rattle.forest.specs.declared.Edge.{Edge}
+use Rattle.seed.specs.Seeds.{edgesOf}
+use Rattle.seed.specs.declared.store.Refusal.{Refusal}
+use Rattle.seed.specs.declared.store.Refusal.the-variants as refusal
+use Rattle.seed.specs.declared.store.Seed.{Seed}
+use Rattle.span.specs.Grown.{Grown}
 use Rattle.space.specs.contracts.plane.PlaneSpace.the-impl as planeSpace
 use Rattle.span.specs.Lengths.{Pinned, distanceOf, spotOf}
 use Rattle.span.specs.Spanning.{Spanning, Steps, linkOf}
@@ -48,10 +56,21 @@ apart u v h k ne =
     (λ (e : leb 1 (far u v) ≡ true). leb-true 1 (far u v) e)
     (or-cases _ _ (every-at 4 (λ b. test u b) row v k))
 
+pinned : Pinned planeSpace.ghosts plane square
+pinned = record { narrow = omega arith; admitted = admits; apart = apart }
+
+grown-square : (t₀ t : Seed) (r : Result ℕ Refusal) → Grown planeSpace.ghosts plane square t₀ r t → (r ≡ Ok 18) × (edgesOf t ≡ square-seed)
+grown-square t₀ t (Ok w) g =
+    let e : edgesOf t ≡ square-seed = spanning-only 4 far (edgesOf t) square-seed (g .measured pinned) spans in
+    (ap Ok (g .wired ∙ ap wire e), e)
+grown-square t₀ t (Err refusal.Outside) g = absurd (⊎-elim (λ (e : _≡_ {A = ℕ} 4 0). omega arith) (λ (l : 512 < 4). omega arith) (g .0))
+grown-square t₀ t (Err refusal.Joined) g = absurd g
+grown-square t₀ t (Err refusal.Short) g = absurd g
+grown-square t₀ t (Err refusal.Long) g = absurd g
+
 pub square-spans : PlaneSpans square square-seed 18
 square-spans = record {
-  pinned = record { narrow = omega arith; admitted = admits; apart = apart };
+  pinned = pinned;
   spans = spans;
-  only = λ E s. spanning-only 4 far E square-seed s spans;
-  wired = refl;
+  call = grown-square;
 }

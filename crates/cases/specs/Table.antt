@@ -9,11 +9,15 @@ use lib.IntN.{ℤ, pos, negsuc}
 use lib.ListN.{length, getD}
 use Rattle.std.specs.declared.option.Option.{Option}
 use Rattle.std.specs.declared.option.Option.the-variants.{Some}
-use Rattle.forest.specs.Edges.{Sound, wire}
+use Rattle.std.specs.declared.result.Result.{Result}
+use Rattle.std.specs.declared.result.Result.the-variants.{Ok}
+use Rattle.forest.specs.Edges.{Sound}
 use Rattle.forest.specs.Growth.{Grows}
 use Rattle.forest.specs.Rooted.{Forest}
 use Rattle.forest.specs.declared.Edge.{Edge}
-use Rattle.seed.specs.Seeds.{edge}
+use Rattle.seed.specs.Seeds.{edge, edgesOf}
+use Rattle.seed.specs.declared.store.Refusal.{Refusal}
+use Rattle.seed.specs.declared.store.Seed.{Seed}
 use Rattle.space.specs.Laws.{answered, limit}
 use Rattle.space.specs.declared.Space.{Ghosts}
 use Rattle.space.specs.declared.air.Air.{Air}
@@ -25,6 +29,7 @@ use Rattle.space.specs.contracts.lift.LiftSpace.the-impl as liftSpace
 use Rattle.space.specs.contracts.plane.Plane as planeType
 use Rattle.space.specs.contracts.plane.PlaneJoining.the-impl as planeJoining
 use Rattle.space.specs.contracts.plane.PlaneSpace.the-impl as planeSpace
+use Rattle.span.specs.Grown.{Grown}
 use Rattle.span.specs.Lengths.{Pinned, distanceOf}
 use Rattle.span.specs.Spanning.{Spanning}
 use Rattle.walk_laws.specs.Walk.{Mark, Rules, blank, home, hung, start, walk}
@@ -68,12 +73,12 @@ pub data Fact : Type 0 where
   -- on plane, with a seed that joins each pin with the next and the allowance p/q, the walk leaves these marks at the pins
   plane-walks : (pins : List Spot) (p q : ℕ) (marks : List Mark) → Fact
 
--- The pins are such as a net can have, the edges are their spanning seed and the only one, and w is their wire.
+-- The pins are such as a net can have, the edges are their spanning seed, and whatever seed it had before, the call for the spanning
+-- seed answers the wire w and leaves these edges.
 pub record PlaneSpans (pins : List Spot) (edges : List Edge) (w : ℕ) : Type 0 where
   pub pinned : Pinned planeSpace.ghosts plane pins
   pub spans : Spanning (length pins) (distanceOf planeSpace.ghosts plane pins) edges
-  pub only : (E : List Edge) → Spanning (length pins) (distanceOf planeSpace.ghosts plane pins) E → E ≡ edges
-  pub wired : wire edges ≡ w
+  pub call : (t₀ t : Seed) (r : Result ℕ Refusal) → Grown planeSpace.ghosts plane pins t₀ r t → (r ≡ Ok w) × (edgesOf t ≡ edges)
 
 -- The edges 0-1, 1-2, .. up to the node k, with d as the length of an edge.
 abbrev pub chain : (ℕ → ℕ → ℕ) → (k : ℕ) → List Edge

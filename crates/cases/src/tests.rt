@@ -65,6 +65,10 @@ fn square(rt: LibcRuntime) -> Result<(), Fail> {
     let mut seed = Seed::new(rt.alloc())?;
     let pins = [ground(0, 0), ground(6, 0), ground(6, 6), ground(0, 6)];
     check_eq(spanner.grow(&Plane, &pins, &mut seed).ok(), Some(18))?;
+    let ends = [(0, 1), (0, 3), (1, 2)];
+    for (edge, (a, b)) in seed.edges().iter().zip(ends.iter().copied()) {
+        check_eq((edge.a, edge.b, edge.length), (a, b, 6))?;
+    }
     check_eq(seed.neighbour(0, 0, 0), Some((1, 6)))?;
     check_eq(seed.neighbour(0, 0, 2), Some((3, 6)))?;
     check_eq(seed.neighbour(1, 0, 0), Some((2, 6)))?;

@@ -16,12 +16,16 @@ use Rattle.seed.specs.declared.store.Refusal.the-variants as refusal
 use Rattle.seed.specs.Seeds.{Inside, Asked, Restarted, Added, edge, edgesOf, nodesOf}
 
 -- an edge between nodes that are not joined is taken
-pub join-taken : (s t : Seed) (a b l : ℕ) (r : Result (Unit {0}) Refusal) → Asked s a b l r t → Inside s a b l → (Joined (edgesOf s) a b → ⊥) → 0 < l →
+pub join-taken : (s t : Seed) (a b l : ℕ) (r : Result (Unit {0}) Refusal) → Asked s a b l r t → Inside s a b → (Joined (edgesOf s) a b → ⊥) → 0 < l → l ≤ 100000000 →
     (isOk r ≡ true) × (edgesOf t ≡ edgesOf s ++ edge a b l ∷ []) × (nodesOf t ≡ nodesOf s)
-join-taken s t a b l (Ok x) h i n p = (refl, h .3, h .4)
-join-taken s t a b l (Err refusal.Outside) h i n p = absurd (h .0 i)
-join-taken s t a b l (Err refusal.Joined) h i n p = absurd (n (h .1))
-join-taken s t a b l (Err refusal.Short) h i n p = absurd (zero l p (h .2))
+join-taken s t a b l (Ok x) h i n p q = (refl, h .4, h .5)
+join-taken s t a b l (Err refusal.Outside) h i n p q = absurd (h .0 i)
+join-taken s t a b l (Err refusal.Joined) h i n p q = absurd (n (h .1))
+join-taken s t a b l (Err refusal.Long) h i n p q = absurd (over l q (h .2))
+  where
+    over : (l : ℕ) → l ≤ 100000000 → 100000000 < l → ⊥
+    over l q e = omega arith
+join-taken s t a b l (Err refusal.Short) h i n p q = absurd (zero l p (h .2))
   where
     zero : (l : ℕ) → 0 < l → l ≡ 0 → ⊥
     zero l p e = omega arith
@@ -35,6 +39,7 @@ join-refused s t a b l (Ok x) h e = absurd (clash e)
 join-refused s t a b l (Err refusal.Outside) h e = h .1
 join-refused s t a b l (Err refusal.Joined) h e = h .2
 join-refused s t a b l (Err refusal.Short) h e = h .3
+join-refused s t a b l (Err refusal.Long) h e = h .3
 
 -- at most 512 nodes are taken
 pub restart-done : (s t : Seed) (n : ℕ) (r : Result (Unit {0}) Refusal) → Restarted s n r t → n ≤ 512 → (isOk r ≡ true) × (edgesOf t ≡ []) × (nodesOf t ≡ n)
@@ -45,3 +50,4 @@ restart-done s t n (Err refusal.Outside) h le = absurd (over n le (h .0))
     over n le lt = omega arith
 restart-done s t n (Err refusal.Joined) h le = absurd h
 restart-done s t n (Err refusal.Short) h le = absurd h
+restart-done s t n (Err refusal.Long) h le = absurd h

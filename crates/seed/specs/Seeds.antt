@@ -24,17 +24,18 @@ nodesOf s = s .nodes
 abbrev pub edge : (a b l : ℕ) → Edge
 edge a b l = record { a = a; b = b; length = l }
 
--- Both numbers are nodes, and the length is one that an edge can have or 0.
-abbrev pub Inside : Seed → (a b l : ℕ) → Type 0
-Inside s a b l = (a < nodesOf s) × (b < nodesOf s) × (l ≤ 100000000)
+-- Both numbers are nodes.
+abbrev pub Inside : Seed → (a b : ℕ) → Type 0
+Inside s a b = (a < nodesOf s) × (b < nodesOf s)
 
 -- The seed s, asked for an edge of length l between a and b, answers r and is t then.
 abbrev pub Asked : (s : Seed) (a b l : ℕ) → Result (Unit {0}) Refusal → (t : Seed) → Type 0
 Asked s a b l (Ok x) t =
-    Inside s a b l × (Joined (edgesOf s) a b → ⊥) × (0 < l) × (edgesOf t ≡ edgesOf s ++ edge a b l ∷ []) × (nodesOf t ≡ nodesOf s)
-Asked s a b l (Err refusal.Outside) t = (Inside s a b l → ⊥) × (t ≡ s)
-Asked s a b l (Err refusal.Joined) t = Inside s a b l × Joined (edgesOf s) a b × (t ≡ s)
-Asked s a b l (Err refusal.Short) t = Inside s a b l × (Joined (edgesOf s) a b → ⊥) × (l ≡ 0) × (t ≡ s)
+    Inside s a b × (Joined (edgesOf s) a b → ⊥) × (0 < l) × (l ≤ 100000000) × (edgesOf t ≡ edgesOf s ++ edge a b l ∷ []) × (nodesOf t ≡ nodesOf s)
+Asked s a b l (Err refusal.Outside) t = (Inside s a b → ⊥) × (t ≡ s)
+Asked s a b l (Err refusal.Joined) t = Inside s a b × Joined (edgesOf s) a b × (t ≡ s)
+Asked s a b l (Err refusal.Short) t = Inside s a b × (Joined (edgesOf s) a b → ⊥) × (l ≡ 0) × (t ≡ s)
+Asked s a b l (Err refusal.Long) t = Inside s a b × (Joined (edgesOf s) a b → ⊥) × (100000000 < l) × (t ≡ s)
 
 -- The seed s, asked to start again with n nodes, answers r and is t then.
 abbrev pub Restarted : (s : Seed) (n : ℕ) → Result (Unit {0}) Refusal → (t : Seed) → Type 0
@@ -42,6 +43,7 @@ Restarted s n (Ok x) t = (n ≤ 512) × (edgesOf t ≡ []) × (nodesOf t ≡ n)
 Restarted s n (Err refusal.Outside) t = (512 < n) × (t ≡ s)
 Restarted s n (Err refusal.Joined) t = ⊥
 Restarted s n (Err refusal.Short) t = ⊥
+Restarted s n (Err refusal.Long) t = ⊥
 
 -- The seed s, asked for one more node, answers r and is t then.
 abbrev pub Added : (s : Seed) → Option ℕ → (t : Seed) → Type 0

@@ -21,12 +21,14 @@ pub const LONGEST: u64 = 100_000_000;
 /// Why a request is refused.
 #[derive(Clone, Copy)]
 pub enum Refusal {
-    /// A number that is no node, too many nodes, or a length above `LONGEST`.
+    /// A number that is no node, or too many nodes.
     Outside,
     /// The ends are joined already.
     Joined,
     /// The length is 0.
     Short,
+    /// The length is above `LONGEST`.
+    Long,
 }
 
 /// Nodes numbered from 0, and edges between them of which none closes a loop.

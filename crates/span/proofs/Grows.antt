@@ -58,15 +58,13 @@ module _ (n : ℕ) (d : ℕ → ℕ → ℕ) (fair : Fair d) (t u : Seed) (F : L
   found : FirstPair n d (edgesOf t) w
   found = first-pair n d (edgesOf t) F (g .firsts) w f
 
-  inside : Inside t (w .u) (w .v) (w .length)
-  inside =
-      let p = found .pair in
-      (omega (arith, p .inner, g .nodes), omega (arith, p .outer, g .nodes), omega (arith, p .long, fair (w .u) (w .v) .1))
+  inside : Inside t (w .u) (w .v)
+  inside = let p = found .pair in (omega (arith, p .inner, g .nodes), omega (arith, p .outer, g .nodes))
 
   taken : (edgesOf u ≡ edgesOf t ++ edge (w .u) (w .v) (w .length) ∷ []) × (nodesOf u ≡ nodesOf t)
   taken =
       let p = found .pair in
-      let r′ = join-taken t u (w .u) (w .v) (w .length) r asked inside (λ j. p .outside (joined-on (p .inside) j)) (omega (arith, p .long, fair (w .u) (w .v) .0)) in
+      let r′ = join-taken t u (w .u) (w .v) (w .length) r asked inside (λ j. p .outside (joined-on (p .inside) j)) (omega (arith, p .long, fair (w .u) (w .v) .0)) (omega (arith, p .long, fair (w .u) (w .v) .1)) in
       (r′ .1, r′ .2)
 
   pub step-grows : (L : List Link) → L ≡ map (offered d (w .v)) (kept-by (elsewhere (w .v)) F) → Growing n d u L × (length (edgesOf u) ≡ length (edgesOf t) + 1)

@@ -37,6 +37,7 @@ Grown G s pins t₀ (Ok w) t = Spanned G s pins w t
 Grown G s pins t₀ (Err refusal.Outside) t = ((length pins ≡ 0) ⊎ (512 < length pins)) × (t ≡ t₀)
 Grown G s pins t₀ (Err refusal.Joined) t = ⊥
 Grown G s pins t₀ (Err refusal.Short) t = ⊥
+Grown G s pins t₀ (Err refusal.Long) t = ⊥
 
 -- What holds of the seed and of the firsts F after each step.
 pub record Growing (n : ℕ) (d : ℕ → ℕ → ℕ) (t : Seed) (F : List Link) : Type 0 where

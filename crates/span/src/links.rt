@@ -10,17 +10,16 @@ ghost use Rattle.span.specs.Spanning.{better, elsewhere, fan, link as linkBetw
 use order::Link;
 use order::LinkRank;
 use order::first;
+use seed::LONGEST;
 use space::Space;
 use space::Spot;
-
-const LONGEST: u64 = 100_000_000;
 
 /// The distance of two spots as the length of an edge, from 1 to 100,000,000; 1 where there is no distance.
 fn length_between<S: Space>(space: &S, a: Spot, b: Spot) -> u64
     ensures { λ r. ⌜ r ≡ lengthOf S·Space (now (space .entry)) a b ⌝ }
 {
     match space.distance(a, b) {
-        Some(d) => d.min(LONGEST).max(1),
+        Some(d) => d.clamp(1, LONGEST),
         None => 1,
     }
 }

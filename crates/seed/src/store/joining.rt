@@ -9,12 +9,12 @@ use super::taking::relabel;
 use forest::Edge;
 
 impl Seed {
-    /// Takes an edge of `length` between `a` and `b`. Refused, with the seed as it was: first where a number is no node or the length
-    /// is above `LONGEST`, then where the ends are joined already, then where the length is 0.
+    /// Takes an edge of `length` between `a` and `b`. Refused, with the seed as it was: first where a number is no node, then where
+    /// the ends are joined already, then where the length is 0, then where it is above `LONGEST`.
     pub fn join(&mut self, a: usize, b: usize, length: u64) -> Result<(), Refusal>
         ensures { λ r. ⌜ Asked (now (self .entry)) a b length r (now (self .exit)) ⌝ }
     {
-        if a >= self.nodes || b >= self.nodes || length > LONGEST {
+        if a >= self.nodes || b >= self.nodes {
             return Err(Refusal::Outside);
         }
         if self.joined(a, b) {
@@ -22,6 +22,9 @@ impl Seed {
         }
         if length == 0 {
             return Err(Refusal::Short);
+        }
+        if length > LONGEST {
+            return Err(Refusal::Long);
         }
         self.accept(a, b, length);
         Ok(())

@@ -3,6 +3,7 @@ ghost use lib.ListN.{length};
 ghost use Rattle.forest.specs.Edges.{wire};
 ghost use Rattle.seed.specs.Seeds.{edgesOf, nodesOf};
 use super::Seed;
+use forest::Edge;
 
 impl Seed {
     /// How many nodes there are.
@@ -17,6 +18,13 @@ impl Seed {
         ensures { λ r. ⌜ r ≡ length (edgesOf (now (self .entry))) ⌝ }
     {
         self.edges.len()
+    }
+
+    /// The edges in the order in which they were taken.
+    pub fn edges(&self) -> &[Edge]
+        ensures { λ r. ⌜ now r ≡ edgesOf (now (self .entry)) ⌝ }
+    {
+        self.edges.as_slice()
     }
 
     /// The sum of the lengths of all edges.
