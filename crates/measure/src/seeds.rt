@@ -1,12 +1,12 @@
 // The spanning seed of the spots in a space.
 use crate::rows::shown;
+use seed::LONGEST;
+use seed::NODES;
 use seed::Seed;
 use space::Space;
 use space::Spot;
 use span::Spanner;
 use std::io;
-
-const WIDEST: u64 = 100_000_000;
 
 /// Whether the spot is at least 1 from each of the pins.
 fn far_from<S: Space>(space: &S, pins: &[Spot], spot: Spot) -> bool {
@@ -30,15 +30,12 @@ fn all_admitted<S: Space>(space: &S, spots: &[Spot]) -> bool {
 /// The spots but for those that are closer than 1 to an earlier one, which are reported.
 fn pins<S: Space>(rt: &LibcRuntime, space: &S, spots: &[Spot]) -> io::Result<Vec<Spot>> {
     let mut pins = Vec::new(rt.alloc());
-    for spot in spots {
+    for (number, spot) in spots.iter().enumerate() {
         if far_from(space, &pins, *spot) {
             pins.push(*spot)?;
         } else {
             let spot = shown(rt.alloc(), *spot)?;
-            println!(
-                rt,
-                "  {spot} left out of the seed: closer than 1 to an earlier spot"
-            )?;
+            println!(rt, "  sink {number} at {spot} left out of the seed: closer than 1 to an earlier spot")?;
         }
     }
     Ok(pins)
@@ -55,13 +52,13 @@ pub fn spanning<S: Space>(
     if !all_admitted(space, spots) {
         return println!(rt, "  no spanning seed: not every spot is admitted");
     }
-    if space.widest() > WIDEST {
-        return println!(rt, "  no spanning seed: the space is wider than {WIDEST}");
+    if space.widest() > LONGEST {
+        return println!(rt, "  no spanning seed: the space is wider than {LONGEST}");
     }
     let pins = pins(rt, space, spots)?;
     let count = pins.len();
     match spanner.grow(space, &pins, seed) {
         Ok(wire) => println!(rt, "  spanning seed of {count} pins: wire {wire}"),
-        Err(_) => println!(rt, "  no spanning seed: {count} pins"),
+        Err(_) => println!(rt, "  no spanning seed: {count} pins, where 1 to {NODES} are taken"),
     }
 }

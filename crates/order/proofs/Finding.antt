@@ -3,11 +3,11 @@ use mathlib.Core.Path.{_≡_, refl, sym, ap, subst, _∙_}
 use mathlib.Core.Bool.{Bool, true, false}
 use mathlib.Core.List.{List, [], _∷_, _++_}
 use mathlib.Core.Logic.{_⊎_, inl, inr, ⊎-elim}
-use Prim.Native.Nat.{ℕ, zero, suc, _+_, _<_}
+use Prim.Native.Nat.{ℕ, zero, suc, _+_, _-_, _<_}
 use native.Mathlib.Omega.{arith}
-use lib.ListN.{length, getD, take}
+use lib.ListN.{length, getD, take, drop}
 use Rattle.std.proofs.shelf.Tests.{both-ways, cases-bool}
-use Rattle.std.proofs.shelf.Lists.{take-more, take-all, getD-read}
+use Rattle.std.proofs.shelf.Lists.{take-more, take-all, take-rest, getD-read}
 use Rattle.std.specs.declared.option.Option.{Option}
 use Rattle.std.specs.declared.option.Option.the-variants.{Some, None}
 use Rattle.order.specs.Orders.{Order}
@@ -166,3 +166,23 @@ among-at [] i x h e = absurd (no-room i h)
     no-room i h = omega arith
 among-at (y ∷ xs) zero x h e = rw e here
 among-at (y ∷ xs) (suc i) x h e = there (among-at xs i x (omega arith) e)
+
+-- ---- a loop over the candidates after the first one
+
+module _ {X : Type 0} {lt : X → X → Bool} (o : Order lt) (ys : List X) (i : ℕ) (h x best : X) (within : i < length ys) (read : x ≡ getD ys i x) (f : First lt (h ∷ take i ys) best) where
+  pushed : take (i + 1) ys ≡ take i ys ++ x ∷ []
+  pushed = take-more ys i x within ∙ ap (λ z. take i ys ++ z ∷ []) (sym read)
+
+  pub passed-takes : lt x best ≡ true → First lt (h ∷ take (i + 1) ys) x
+  passed-takes t = let P : List X → Type 0 = λ zs. First lt (h ∷ zs) x in subst P (sym pushed) (first-takes o f t)
+
+  pub passed-keeps : lt x best ≡ false → First lt (h ∷ take (i + 1) ys) best
+  passed-keeps t = let P : List X → Type 0 = λ zs. First lt (h ∷ zs) best in subst P (sym pushed) (first-keeps o f t)
+
+-- the head of a slice and the rest of it, as the checker reads them
+pub head-and-rest : {X : Type 0} (xs : List X) (x : X) → 0 < length xs → x ≡ getD xs 0 x → x ∷ take (length xs - 1) (drop 1 xs) ≡ xs
+head-and-rest [] x h e = absurd (none h)
+  where
+    none : 0 < 0 → ⊥
+    none h = omega arith
+head-and-rest (y ∷ ys) x h e = ap (λ zs. x ∷ zs) (take-rest (y ∷ ys) 1) ∙ ap (λ z. z ∷ ys) e

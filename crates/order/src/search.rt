@@ -22,11 +22,11 @@ pub fn first<C: Rank + Copy>(candidates: &[C]) -> Option<C>
     ensures staged { λ r. ⌜ ((xs : List C) → Covers (C·Rank .before) (now (candidates .entry)) xs → FirstOf (C·Rank .before) xs r) ⌝ }
     ensures gathered { λ r. ⌜ ((ls : List (List C)) → Winners (C·Rank .before) ls (now (candidates .entry)) → FirstOf (C·Rank .before) (together ls) r) ⌝ }
 {
-    let [head, ..] = candidates else {
+    let [head, rest @ ..] = candidates else {
         return None;
     };
     let mut best = *head;
-    for candidate in candidates {
+    for candidate in rest {
         if candidate.precedes(&best) {
             best = *candidate;
         }

@@ -28,7 +28,7 @@ lengthOf G s a b = max 1 (min 100000000 (valueOr (answered (G .admitted s a && G
 abbrev pub lengths : {X : Type 0} → Ghosts X → X → List Spot → ℕ → ℕ → ℕ
 lengths G s pins u v = lengthOf G s (spotOf pins u) (spotOf pins v)
 
--- Pins in a space that keeps the laws: each is admitted, and any two are at least 1 apart.
+-- Pins in a space that owes the laws: each is admitted, and any two are at least 1 apart.
 pub record Pinned {X : Type 0} (G : Ghosts X) (s : X) (pins : List Spot) : Type 0 where
   pub narrow : G .width s ≤ 100000000
   pub admitted : (v : ℕ) → v < length pins → G .admitted s (spotOf pins v) ≡ true

@@ -59,7 +59,7 @@ abbrev pub fan : (ℕ → ℕ → ℕ) → (k : ℕ) → List Link
 fan d zero = []
 fan d (suc k) = fan d k ++ link d 0 (suc k) ∷ []
 
--- A pin outside is an end of no edge.
+-- A pin outside is joined with itself only.
 abbrev pub Alone : List Edge → Type 0
 Alone E = (v x : ℕ) → (Joined E 0 v → ⊥) → Joined E v x → x ≡ v
 

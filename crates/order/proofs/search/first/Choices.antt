@@ -5,4 +5,4 @@ use Rattle.order.proofs.search.first.Given as given
 
 -- the best so far is the first of the head and of what was passed
 abbrev pub Inv-loop-candidate : given.InvT-loop-candidate
-Inv-loop-candidate g l = First (g .C·Rank .before) (l .entry .best ∷ take (l .candidate-index) (l .candidates)) (l .best)
+Inv-loop-candidate g l = First (g .C·Rank .before) (l .entry .best ∷ take (l .candidate-index) (l .rest)) (l .best)
