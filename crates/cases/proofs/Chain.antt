@@ -24,15 +24,15 @@ module _ (d : ℕ → ℕ → ℕ) where
   neighbours (suc m) u v l h =
       ⊎-elim
       (λ (k : Near (chain d m) u v l).
-          ⊎-elim
-          (λ (n : Next m u v). inl (omega (arith, n .0), n .1))
-          (λ (n : Next m v u). inr (omega (arith, n .0), n .1))
-          (neighbours m u v l k))
+      ⊎-elim
+      (λ (n : Next m u v). inl (omega (arith, n .0), n .1))
+      (λ (n : Next m v u). inr (omega (arith, n .0), n .1))
+      (neighbours m u v l k))
       (λ (k : Newly (edge m (suc m) (d m (suc m))) u v l).
-          ⊎-elim
-          (λ (n : (m ≡ u) × (suc m ≡ v)). inl (omega (arith, n .0), sym (n .1) ∙ ap suc (n .0)))
-          (λ (n : (m ≡ v) × (suc m ≡ u)). inr (omega (arith, n .0), sym (n .1) ∙ ap suc (n .0)))
-          (k .0))
+      ⊎-elim
+      (λ (n : (m ≡ u) × (suc m ≡ v)). inl (omega (arith, n .0), sym (n .1) ∙ ap suc (n .0)))
+      (λ (n : (m ≡ v) × (suc m ≡ u)). inr (omega (arith, n .0), sym (n .1) ∙ ap suc (n .0)))
+      (k .0))
       (near-cases (chain d m) (edge m (suc m) (d m (suc m))) h)
 
   next : (m u : ℕ) → u < m → Near (chain d m) u (suc u) (d u (suc u))
@@ -43,8 +43,8 @@ module _ (d : ℕ → ℕ → ℕ) where
   next (suc m) u h =
       ⊎-elim
       (λ (e : u ≡ m).
-          let P : ℕ → Type 0 = λ z. Near (chain d (suc m)) z (suc z) (d z (suc z)) in
-          subst P (sym e) (near-new (chain d m) (edge m (suc m) (d m (suc m)))))
+      let P : ℕ → Type 0 = λ z. Near (chain d (suc m)) z (suc z) (d z (suc z)) in
+      subst P (sym e) (near-new (chain d m) (edge m (suc m) (d m (suc m)))))
       (λ (l : u < m). near-push (edge m (suc m) (d m (suc m))) (next m u l))
       (last u m h)
     where
@@ -72,11 +72,11 @@ module _ (d : ℕ → ℕ → ℕ) where
   grows-below (suc k) m u w e from =
       let here : u < m = omega arith in
       let least : Least (chain d m) u w 0 (suc u) (d u (suc u)) = record {
-            near = next m u here;
-            from = omega arith;
-            other = λ f. ⊎-elim (λ (g : (u ≡ 0) × (w ≡ 0)). omega (arith, f, g .1)) (λ (g : u ≡ suc w). omega (arith, f, g)) from;
-            least = λ x l h low other. omega (arith, only-next m u w x l from h other .1);
-          } in
+        near = next m u here;
+        from = omega arith;
+        other = λ f. ⊎-elim (λ (g : (u ≡ 0) × (w ≡ 0)). omega (arith, f, g .1)) (λ (g : u ≡ suc w). omega (arith, f, g)) from;
+        least = λ x l h low other. omega (arith, only-next m u w x l from h other .1);
+      } in
       grown least (grows-below k m (suc u) u (omega arith) (inr refl)) (bare (λ x l h low other. omega (arith, only-next m u w x l from h other .1)))
 
   pub chain-grows : (m : ℕ) → Grows (chain d m) 0 0 0 (links 0 m)

@@ -9,6 +9,31 @@ use Rattle.cases.proofs.Walks.{corner-walks, fork-walks, square-walks}
 
 pub rows : All Holds table
 unfolding rootUp rootFrom walk
-rows =
-    (refl, (refl, (refl, (refl, (refl, (refl, (refl, (refl, (square-spans,
-    (square-walks 2 1 _ refl refl refl refl, (square-walks 199 100 _ refl refl refl refl, (corner-walks 0 1 _ refl refl refl, (fork-walks 0 1 _ refl refl refl refl, tt)))))))))))))
+rows = (
+  refl,
+  (
+    refl,
+    (
+      refl,
+      (
+        refl,
+        (
+          refl,
+          (
+            refl,
+            (
+              refl,
+              (
+                refl,
+                (
+                  square-spans,
+                  (square-walks 2 1 _ refl refl refl refl, (square-walks 199 100 _ refl refl refl refl, (corner-walks 0 1 _ refl refl refl, (fork-walks 0 1 _ refl refl refl refl, tt)))),
+                ),
+              ),
+            ),
+          ),
+        ),
+      ),
+    ),
+  ),
+)

@@ -46,7 +46,6 @@ square-sound (suc (suc (suc k))) x h = absurd (over k h)
     over : (k : ℕ) → suc (suc (suc k)) < 3 → ⊥
     over k h = omega arith
 
-
 fork-sound : Sound 4 (chain (far fork) 3)
 fork-sound zero x h = (omega arith, omega arith, omega arith, omega arith, λ j. differ 0 1 (omega arith) (joined-label j))
 fork-sound (suc zero) x h = (omega arith, omega arith, omega arith, omega arith, λ j. differ 0 2 (omega arith) (joined-label j))

@@ -1,12 +1,12 @@
 // Measures a net in each built space. Standard input has a spot `x,y,level` a line, the driver first; the first
-// argument is the price of the lift, 40 where there is none.
+// argument is the price of the lift, 40 where there is none; the second is the allowance p/q of the walk, 1/4 where there is none.
 mod reading;
 mod rows;
 mod seeds;
 
 use rows::distances;
 use rows::meets;
-use seed::Seed;
+use seeds::Tables;
 use seeds::spanning;
 use space::Air;
 use space::AirSpace;
@@ -17,12 +17,14 @@ use space::Plane;
 use space::PlaneJoining;
 use space::PlaneSpace;
 use space::Spot;
-use span::Spanner;
 use std::env;
 use std::error::AnyError;
 use std::io;
+use walk::Allowance;
 
 const DEFAULT_PRICE: u32 = 40;
+
+const DEFAULT_ALLOWANCE: (u32, u32) = (1, 4);
 
 fn main(rt: LibcRuntime) -> Result<(), AnyError> {
     rt.report(run(&rt))
@@ -31,15 +33,15 @@ fn main(rt: LibcRuntime) -> Result<(), AnyError> {
 fn run(rt: &LibcRuntime) -> Result<(), AnyError> {
     let price = price_argument(rt)?;
     let spots = read(rt)?;
-    let mut spanner = Spanner::new(rt.alloc())?;
-    let mut seed = Seed::new(rt.alloc())?;
+    let allowance = allowance_argument(rt)?;
+    let mut tables = Tables::new(rt.alloc())?;
     println!(rt, "plane")?;
     distances(rt, &Plane, &spots)?;
     meets(rt, &Plane, &spots)?;
-    spanning(rt, &Plane, &spots, &mut spanner, &mut seed)?;
+    spanning(rt, &Plane, &spots, &mut tables, allowance)?;
     println!(rt, "air")?;
     distances(rt, &Air, &spots)?;
-    spanning(rt, &Air, &spots, &mut spanner, &mut seed)?;
+    spanning(rt, &Air, &spots, &mut tables, allowance)?;
     println!(rt, "lift over plane, price {price}")?;
     let lift = Lift {
         below: Plane,
@@ -47,7 +49,7 @@ fn run(rt: &LibcRuntime) -> Result<(), AnyError> {
     };
     distances(rt, &lift, &spots)?;
     meets(rt, &lift, &spots)?;
-    spanning(rt, &lift, &spots, &mut spanner, &mut seed)?;
+    spanning(rt, &lift, &spots, &mut tables, allowance)?;
     let count = spots.len();
     println!(rt, "{count} spots measured")?;
     Ok(())
@@ -62,6 +64,20 @@ fn price_argument(rt: &LibcRuntime) -> Result<u32, AnyError> {
         Some(price) => Ok(price),
         None => Err("the price is not a number from 0 to 4294967295".into()),
     }
+}
+
+/// The second argument after the program's name, where there is one.
+fn allowance_argument(rt: &LibcRuntime) -> Result<Allowance, AnyError> {
+    let ratio = match env::args(rt)?.nth(2) {
+        Some(text) => spotlist::ratio(text.as_str()),
+        None => Some(DEFAULT_ALLOWANCE),
+    };
+    if let Some((p, q)) = ratio {
+        if let Some(allowance) = Allowance::new(u64::from(p), u64::from(q)) {
+            return Ok(allowance);
+        }
+    }
+    Err("the allowance is not p/q with p from 0 to 1000 and q from 1 to 1000".into())
 }
 
 /// The spots of standard input. A line that is no spot is reported and left out.

@@ -37,10 +37,10 @@ free-after c q bs k small digits sign i within at =
     ⊎-elim
     (λ (l : i < k). let z : i ≡ 0 = omega arith in sign (omega arith) (sym (ap (λ j. getD bs j 0) z) ∙ at))
     (λ (l : k ≤ i).
-      let there : i - k < length (drop k bs) = omega (arith, length-drop k bs) in
-      let d = digit-at (drop k bs) (i - k) digits there in
-      let same : getD (drop k bs) (i - k) 0 ≡ getD bs i 0 = getD-drop k bs (i - k) 0 ∙ ap (λ j. getD bs j 0) (omega arith) in
-      omega (arith, d, same, at, q .low))
+    let there : i - k < length (drop k bs) = omega (arith, length-drop k bs) in
+    let d = digit-at (drop k bs) (i - k) digits there in
+    let same : getD (drop k bs) (i - k) 0 ≡ getD bs i 0 = getD-drop k bs (i - k) 0 ∙ ap (λ j. getD bs j 0) (omega arith) in
+    omega (arith, d, same, at, q .low))
     (cases-lt i k)
 
 signed-free : (c : ℕ) → Parts c → (bs : List ℕ) (s : Bool) (p : Bool) → minus bs ≡ s → eqb (getD bs 0 0) 43 ≡ p → Digits 10 (cond s (drop 1 bs) (drop (cond p 1 0) bs)) → Free c bs

@@ -21,13 +21,13 @@ loop-candidate-again g c =
     let i = c .loop-candidate .candidate-index in
     let o = g .C·Rank·met .order in
     let h : i < length ys = simp (length-take, length-drop) (omega arith) in
-    elim (c .if-precedes .came)
-    [ then-precedes w ↦
-        let P : g .C .Denot → Type 0 = λ z. First (g .C·Rank .before) (c .head-item .result ∷ take (i + 1) ys) z in
-        subst P (sym (w .best-is)) (passed-takes o ys i (c .head-item .result) (c .candidate-item .result) (c .loop-candidate .best) h (c .candidate-item .is) (c .loop-candidate .inv) (sym (c .precedes .ensures) ∙ w .if-precedes .taken))
-    | else-precedes w ↦
-        let P : g .C .Denot → Type 0 = λ z. First (g .C·Rank .before) (c .head-item .result ∷ take (i + 1) ys) z in
-        subst P (sym (w .best-is)) (passed-keeps o ys i (c .head-item .result) (c .candidate-item .result) (c .loop-candidate .best) h (c .candidate-item .is) (c .loop-candidate .inv) (sym (c .precedes .ensures) ∙ w .if-precedes .left))
+    elim (c .if-precedes .came) [
+      | then-precedes w ↦
+          let P : g .C .Denot → Type 0 = λ z. First (g .C·Rank .before) (c .head-item .result ∷ take (i + 1) ys) z in
+          subst P (sym (w .best-is)) (passed-takes o ys i (c .head-item .result) (c .candidate-item .result) (c .loop-candidate .best) h (c .candidate-item .is) (c .loop-candidate .inv) (sym (c .precedes .ensures) ∙ w .if-precedes .taken))
+      | else-precedes w ↦
+          let P : g .C .Denot → Type 0 = λ z. First (g .C·Rank .before) (c .head-item .result ∷ take (i + 1) ys) z in
+          subst P (sym (w .best-is)) (passed-keeps o ys i (c .head-item .result) (c .candidate-item .result) (c .loop-candidate .best) h (c .candidate-item .is) (c .loop-candidate .inv) (sym (c .precedes .ensures) ∙ w .if-precedes .left))
     ]
 
 pub returns : need.returns

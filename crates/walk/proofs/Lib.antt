@@ -1,0 +1,3 @@
+pub mod Marked
+pub mod Fresh
+pub mod Loop
