@@ -3,16 +3,15 @@ use std::test::*;
 use walk::Allowance;
 use walk::Table;
 
-fn restart(seed: &mut Seed, n: usize) -> Result<(), Fail> {
-    check(seed.restart(n).is_ok()).note("a seed takes this many nodes")
+// A seed of n nodes without edges, and the driver's row.
+fn start(seed: &mut Seed, table: &mut Table, n: usize) -> bool {
+    table.clear();
+    seed.restart(n).is_ok() && table.add(0).is_some()
 }
 
-fn join(seed: &mut Seed, a: usize, b: usize, length: u64) -> Result<(), Fail> {
-    check(seed.join(a, b, length).is_ok()).note("the edge is taken")
-}
-
-fn add(table: &mut Table, direct: u64) -> Result<(), Fail> {
-    check(table.add(direct).is_some()).note("the row is taken")
+// One more edge, and one more row.
+fn grow(seed: &mut Seed, table: &mut Table, a: usize, b: usize, length: u64, direct: u64) -> bool {
+    seed.join(a, b, length).is_ok() && table.add(direct).is_some()
 }
 
 // How many breakpoints a walk with the allowance p/q makes; nothing where the seed is not walked.
@@ -36,15 +35,14 @@ fn stands(table: &Table, k: usize, est: u64, parent: usize, broken: bool) -> boo
 }
 
 // A daisy chain of 512 nodes with edges of length 10, laid round in a ring: the nodes from 257 on are nearer the other way round.
-fn chain(seed: &mut Seed, table: &mut Table) -> Result<(), Fail> {
-    restart(seed, 512)?;
-    add(table, 0)?;
+fn chain(seed: &mut Seed, table: &mut Table) -> bool {
     for v in 1..512 {
-        join(seed, v - 1, v, 10)?;
         let steps = if v <= 256 { v } else { 512 - v };
-        add(table, steps as u64 * 10)?;
+        if !grow(seed, table, v - 1, v, 10, steps as u64 * 10) {
+            return false;
+        }
     }
-    Ok(())
+    true
 }
 
 // Whether each node of the chain hangs on the one before it.
@@ -61,7 +59,7 @@ fn is_kept(table: &Table) -> bool {
 fn walks_a_daisy_chain(rt: LibcRuntime) -> Result<(), Fail> {
     let mut seed = Seed::new(rt.alloc())?;
     let mut table = Table::new(rt.alloc())?;
-    chain(&mut seed, &mut table)?;
+    check(start(&mut seed, &mut table, 512) && chain(&mut seed, &mut table))?;
     check(broken(&mut table, &seed, 512, 1, 4) == Some(32))?;
     check(stands(&table, 0, 0, 0, false) && stands(&table, 256, 2560, 255, false))?;
     check(stands(&table, 257, 2550, 258, false) && stands(&table, 284, 2280, 285, false))?;
@@ -72,63 +70,55 @@ fn walks_a_daisy_chain(rt: LibcRuntime) -> Result<(), Fail> {
 }
 
 // The hub 1 is 10 from the driver and 10 from each other node; an even node is as far from the driver as by the hub, an odd one is not.
-fn star(seed: &mut Seed, table: &mut Table) -> Result<(), Fail> {
-    restart(seed, 512)?;
-    join(seed, 0, 1, 10)?;
-    add(table, 0)?;
-    add(table, 10)?;
+fn leaves(seed: &mut Seed, table: &mut Table) -> bool {
     for v in 2..512 {
-        join(seed, v, 1, 10)?;
-        add(table, if v % 2 == 0 { 20 } else { 12 })?;
+        let direct = if v % 2 == 0 { 20 } else { 12 };
+        if !grow(seed, table, v, 1, 10, direct) {
+            return false;
+        }
     }
-    Ok(())
+    true
 }
 
 #[test]
 fn breaks_every_other_leaf_of_a_star(rt: LibcRuntime) -> Result<(), Fail> {
     let mut seed = Seed::new(rt.alloc())?;
     let mut table = Table::new(rt.alloc())?;
-    star(&mut seed, &mut table)?;
+    check(start(&mut seed, &mut table, 512))?;
+    check(grow(&mut seed, &mut table, 0, 1, 10, 10) && leaves(&mut seed, &mut table))?;
     check(broken(&mut table, &seed, 512, 1, 2) == Some(255))?;
     check(stands(&table, 1, 10, 0, false) && stands(&table, 510, 20, 1, false))?;
     check(stands(&table, 511, 12, 1, true))
 }
 
 // The pins 1 to 255, each 5 from its point of the spine. An even pin is no further from the driver than that point.
-fn teeth(seed: &mut Seed, table: &mut Table) -> Result<(), Fail> {
+fn teeth(seed: &mut Seed, table: &mut Table) -> bool {
     for i in 1..256 {
-        join(seed, 255 + i, i, 5)?;
-        add(
-            table,
-            if i % 2 == 0 {
-                i as u64 * 10
-            } else {
-                i as u64 * 10 + 5
-            },
-        )?;
+        let more = if i % 2 == 0 { 0 } else { 5 };
+        if !grow(seed, table, 255 + i, i, 5, i as u64 * 10 + more) {
+            return false;
+        }
     }
-    Ok(())
+    true
 }
 
 // The Steiner points from 256 on, 10 apart and each said to stand on the driver.
-fn spine(seed: &mut Seed, table: &mut Table) -> Result<(), Fail> {
-    join(seed, 0, 256, 10)?;
-    add(table, 0)?;
-    for v in 257..511 {
-        join(seed, v - 1, v, 10)?;
-        add(table, 0)?;
+fn spine(seed: &mut Seed, table: &mut Table) -> bool {
+    for v in 256..511 {
+        let before = if v == 256 { 0 } else { v - 1 };
+        if !grow(seed, table, before, v, 10, 0) {
+            return false;
+        }
     }
-    Ok(())
+    true
 }
 
 #[test]
 fn breaks_every_other_tooth_of_a_comb(rt: LibcRuntime) -> Result<(), Fail> {
     let mut seed = Seed::new(rt.alloc())?;
     let mut table = Table::new(rt.alloc())?;
-    restart(&mut seed, 511)?;
-    add(&mut table, 0)?;
-    teeth(&mut seed, &mut table)?;
-    spine(&mut seed, &mut table)?;
+    check(start(&mut seed, &mut table, 511))?;
+    check(teeth(&mut seed, &mut table) && spine(&mut seed, &mut table))?;
     check(broken(&mut table, &seed, 256, 0, 1) == Some(127))?;
     check(stands(&table, 254, 2540, 509, true) && stands(&table, 255, 2555, 510, false))?;
     check(stands(&table, 510, 2550, 509, false))?;
@@ -141,13 +131,9 @@ fn refuses_what_is_no_tree(rt: LibcRuntime) -> Result<(), Fail> {
     let mut seed = Seed::new(rt.alloc())?;
     let mut table = Table::new(rt.alloc())?;
     check(broken(&mut table, &seed, 0, 1, 4).is_none()).note("no nodes")?;
-    restart(&mut seed, 2)?;
-    add(&mut table, 0)?;
-    add(&mut table, 7)?;
+    check(start(&mut seed, &mut table, 2) && table.add(7).is_some())?;
     check(broken(&mut table, &seed, 2, 1, 4).is_none()).note("two parts")?;
-    join(&mut seed, 0, 1, 7)?;
+    check(seed.join(0, 1, 7).is_ok() && broken(&mut table, &seed, 2, 1, 4) == Some(0))?;
     check(broken(&mut table, &seed, 2, 1, 0).is_none()).note("no allowance")?;
-    check(broken(&mut table, &seed, 2, 1, 4) == Some(0))?;
-    add(&mut table, 3)?;
-    check(broken(&mut table, &seed, 2, 1, 4).is_none()).note("a row too many")
+    check(table.add(3).is_some() && broken(&mut table, &seed, 2, 1, 4).is_none())
 }

@@ -1,11 +1,11 @@
 ghost use mathlib.Core.Bool.{true, false, _&&_};
 ghost use mathlib.Core.Path.{_≡_};
-ghost use Prim.Native.Nat.{ℕ, _+_};
+ghost use Prim.Native.Nat.{_+_};
 ghost use lib.Dec.{eqb};
 ghost use lib.ListN.{length};
 ghost use Rattle.forest.specs.Growth.{Planted};
 ghost use Rattle.seed.specs.Seeds.{nodesOf, edgesOf};
-ghost use Rattle.walk.specs.Marks.{marks, directs, rulesOf};
+ghost use Rattle.walk.specs.Marks.{marks, rulesOf};
 ghost use Rattle.walk.specs.Tables.{rowsOf};
 ghost use Rattle.walk.specs.Walked.{Ready, Walked, Kept};
 use super::Table;
@@ -13,6 +13,18 @@ use crate::allowance::Allowance;
 use seed::Seed;
 
 impl Table {
+    /// Whether the seed is a tree and there is one row for each of its nodes.
+    fn fits(&self, seed: &Seed) -> bool
+        ensures test { λ r. ⌜ r ≡ (eqb (length (edgesOf (now (seed .entry))) + 1) (nodesOf (now (seed .entry))) && eqb (length (rowsOf (now (self .entry)))) (nodesOf (now (seed .entry)))) ⌝ }
+        ensures planted { λ r. ⌜ (r ≡ true → Planted (nodesOf (now (seed .entry))) (edgesOf (now (seed .entry)))) ⌝ }
+    {
+        if seed.tree() {
+            self.rows.len() == seed.nodes()
+        } else {
+            false
+        }
+    }
+
     /// Takes the steps of the walk over a seed that is a tree, from fresh rows: down to the next child where there is one, else back up.
     fn take_steps(&mut self, seed: &Seed, pins: usize, allowance: Allowance)
         requires tree { ⌜ length (edgesOf (now seed)) + 1 ≡ nodesOf (now seed) ⌝ }
@@ -48,10 +60,7 @@ impl Table {
         ensures walked { λ r. ⌜ (r ≡ true → Walked (rulesOf (allowance .p) (allowance .q) pins (rowsOf (now (self .entry)))) (nodesOf (now (seed .entry))) (edgesOf (now (seed .entry))) (marks (rowsOf (now (self .exit))))) ⌝ }
         ensures kept { λ _. ⌜ Kept (rowsOf (now (self .entry))) (rowsOf (now (self .exit))) ⌝ }
     {
-        if !seed.tree() {
-            return false;
-        }
-        if self.rows.len() != seed.nodes() {
+        if !self.fits(seed) {
             return false;
         }
         self.renew_all();

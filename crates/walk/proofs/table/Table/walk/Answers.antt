@@ -5,7 +5,7 @@ use Prim.Native.Nat.{ℕ, _+_, _<_, _≤_}
 use native.Mathlib.Omega.{arith}
 use lib.Dec.{eqb}
 use lib.ListN.{length}
-use Rattle.std.proofs.shelf.Tests.{eqb-true, eq-eqb, and-from, both-ways}
+use Rattle.std.proofs.shelf.Tests.{eqb-true, and-parts, both-ways}
 use Rattle.seed.specs.Seeds.{nodesOf, edgesOf}
 use Rattle.walk.specs.declared.row.Row.{Row}
 use Rattle.walk.specs.Marks.{directs, marks, rulesOf}
@@ -18,12 +18,12 @@ pub take-steps-requires : need.take-steps-requires
 take-steps-requires c κs =
     let s = c .args .seed .now in
     let rows : List Row = rowsOf (c .args .self .now) in
-    let tree : length (edgesOf s) + 1 ≡ nodesOf s = eqb-true (length (edgesOf s) + 1) (nodesOf s) (sym (c .if-not-tree .ensures tt .test)) in
-    let count : length rows ≡ nodesOf s =
-    omega (arith, c .len .ensures, c .args .self .now .rows .ok .0, c .nodes .ensures, c .if-len-nodes .left) in
+    let both = and-parts (eqb (length (edgesOf s) + 1) (nodesOf s)) (eqb (length rows) (nodesOf s)) (sym (c .if-not-fits .ensures tt .test)) in
+    let tree : length (edgesOf s) + 1 ≡ nodesOf s = eqb-true (length (edgesOf s) + 1) (nodesOf s) (both .0) in
+    let count : length rows ≡ nodesOf s = eqb-true (length rows) (nodesOf s) (both .1) in
     record {
       tree = tree;
-      planted = c .if-not-tree .ensures tt .planted refl;
+      planted = c .if-not-fits .ensures tt .planted refl;
       ready = renewed-ready rows (rowsOf (c .renew-all .last .self)) (nodesOf s) (c .renew-all .ensures) (omega (arith, tree)) count;
     }
 
@@ -33,17 +33,16 @@ returns c =
     let rows : List Row = rowsOf (c .args .self .now) in
     let fresh : List Row = rowsOf (c .renew-all .last .self) in
     let done : List Row = rowsOf (c .take-steps .last .self) in
-    let test : eqb (length (edgesOf s) + 1) (nodesOf s) ≡ true = sym (c .if-not-tree .ensures tt .test) in
-    let tree : length (edgesOf s) + 1 ≡ nodesOf s = eqb-true (length (edgesOf s) + 1) (nodesOf s) test in
-    let count : length rows ≡ nodesOf s =
-    omega (arith, c .len .ensures, c .args .self .now .rows .ok .0, c .nodes .ensures, c .if-len-nodes .left) in
+    let both = and-parts (eqb (length (edgesOf s) + 1) (nodesOf s)) (eqb (length rows) (nodesOf s)) (sym (c .if-not-fits .ensures tt .test)) in
+    let tree : length (edgesOf s) + 1 ≡ nodesOf s = eqb-true (length (edgesOf s) + 1) (nodesOf s) (both .0) in
+    let count : length rows ≡ nodesOf s = eqb-true (length rows) (nodesOf s) (both .1) in
     let first : Kept rows fresh = renewed-kept rows fresh (nodesOf s) (c .renew-all .ensures) (omega (arith, tree)) count in
     let last : Kept fresh done = c .take-steps .ensures .kept in
     let D : directs fresh ≡ directs rows = fun-ext (λ k. first .direct k) in
     let P : (ℕ → ℕ) → Type 0 =
     λ d. Walked (record { p = c .args .allowance .p; q = c .args .allowance .q; pins = c .args .pins; direct = d }) (nodesOf s) (edgesOf s) (marks done) in
     record {
-      taken = sym (and-from (eqb (length (edgesOf s) + 1) (nodesOf s)) (eqb (length rows) (nodesOf s)) test (eq-eqb (length rows) (nodesOf s) count));
+      taken = c .if-not-fits .ensures tt .test;
       refused = λ h. absurd (both-ways true h refl);
       walked = λ _. subst P D (c .take-steps .ensures .walked);
       kept = record { count = last .count ∙ first .count; direct = λ k. last .direct k ∙ first .direct k };
