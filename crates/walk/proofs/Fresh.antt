@@ -1,7 +1,7 @@
 -- Rows made fresh one after another, and rows that are added. Assumes nothing.
 use mathlib.Core.Path.{_≡_, refl, sym, ap, subst, _∙_, fun-ext}
 use mathlib.Core.Logic.{_⊎_, inl, inr}
-use mathlib.Core.Bool.{false, cond}
+use mathlib.Core.Bool.{true, false, cond, _&&_}
 use mathlib.Core.List.{List, [], _∷_, _++_}
 use Prim.Native.Nat.{ℕ, zero, suc, _+_, _<_, _≤_}
 use native.Mathlib.Omega.{arith}
@@ -11,12 +11,17 @@ use lib.Seq.{getD-set-same, getD-set-other}
 use Rattle.std.specs.declared.option.Option.{Option}
 use Rattle.std.specs.declared.option.Option.the-variants.{Some, None}
 use Rattle.std.proofs.shelf.Lists.{getD-past}
-use Rattle.std.proofs.shelf.Tests.{cases-eq, cases-lt, cond-true, cond-false, eq-eqb, ne-eqb}
+use Rattle.std.proofs.shelf.Tests.{and-parts, cases-eq, cases-lt, eqb-true, cond-true, cond-false, eq-eqb, ne-eqb}
 use Rattle.walk_laws.specs.Walk as laws
 use Rattle.walk.specs.declared.row.Row.{Row}
 use Rattle.walk.specs.Marks.{idle, seen, marks, froms, nexts, directs, freshMark, freshRow}
 use Rattle.walk.specs.Tables.{Renewed}
 use Rattle.walk.specs.Walked.{Ready, Kept}
+
+-- Two tests that both came out true.
+pub both-equal : (a b c d : ℕ) → true ≡ (eqb a b && eqb c d) → (a ≡ b) × (c ≡ d)
+both-equal a b c d h =
+    let t = and-parts (eqb a b) (eqb c d) (sym h) in (eqb-true a b (t .0), eqb-true c d (t .1))
 
 -- One more row whose direct distance is not too large.
 pub near-push : (rows : List Row) (r : Row) → r .direct ≤ 100000000 → ((k : ℕ) → directs rows k ≤ 100000000) →

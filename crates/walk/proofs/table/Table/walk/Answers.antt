@@ -1,26 +1,25 @@
-use mathlib.Core.Path.{_≡_, refl, sym, ap, subst, _∙_, fun-ext}
-use mathlib.Core.Bool.{true, false, _&&_}
+use mathlib.Core.Path.{_≡_, refl, subst, _∙_, fun-ext}
+use mathlib.Core.Bool.{true}
 use mathlib.Core.List.{List}
-use Prim.Native.Nat.{ℕ, _+_, _<_, _≤_}
+use Prim.Native.Nat.{ℕ, _+_}
 use native.Mathlib.Omega.{arith}
-use lib.Dec.{eqb}
 use lib.ListN.{length}
-use Rattle.std.proofs.shelf.Tests.{eqb-true, and-parts, both-ways}
+use Rattle.std.proofs.shelf.Tests.{both-ways}
 use Rattle.seed.specs.Seeds.{nodesOf, edgesOf}
 use Rattle.walk.specs.declared.row.Row.{Row}
-use Rattle.walk.specs.Marks.{directs, marks, rulesOf}
+use Rattle.walk.specs.Marks.{directs, marks}
 use Rattle.walk.specs.Tables.{rowsOf}
-use Rattle.walk.specs.Walked.{Ready, Walked, Kept}
-use Rattle.walk.proofs.Fresh.{renewed-ready, renewed-kept}
+use Rattle.walk.specs.Walked.{Walked, Kept}
+use Rattle.walk.proofs.Fresh.{both-equal, renewed-ready, renewed-kept}
 use Rattle.walk.proofs.table.Table.walk.Needs as need
 
 pub take-steps-requires : need.take-steps-requires
 take-steps-requires c κs =
     let s = c .args .seed .now in
     let rows : List Row = rowsOf (c .args .self .now) in
-    let both = and-parts (eqb (length (edgesOf s) + 1) (nodesOf s)) (eqb (length rows) (nodesOf s)) (sym (c .if-not-fits .ensures tt .test)) in
-    let tree : length (edgesOf s) + 1 ≡ nodesOf s = eqb-true (length (edgesOf s) + 1) (nodesOf s) (both .0) in
-    let count : length rows ≡ nodesOf s = eqb-true (length rows) (nodesOf s) (both .1) in
+    let both = both-equal (length (edgesOf s) + 1) (nodesOf s) (length rows) (nodesOf s) (c .if-not-fits .ensures tt .test) in
+    let tree : length (edgesOf s) + 1 ≡ nodesOf s = both .0 in
+    let count : length rows ≡ nodesOf s = both .1 in
     record {
       tree = tree;
       planted = c .if-not-fits .ensures tt .planted refl;
@@ -33,9 +32,9 @@ returns c =
     let rows : List Row = rowsOf (c .args .self .now) in
     let fresh : List Row = rowsOf (c .renew-all .last .self) in
     let done : List Row = rowsOf (c .take-steps .last .self) in
-    let both = and-parts (eqb (length (edgesOf s) + 1) (nodesOf s)) (eqb (length rows) (nodesOf s)) (sym (c .if-not-fits .ensures tt .test)) in
-    let tree : length (edgesOf s) + 1 ≡ nodesOf s = eqb-true (length (edgesOf s) + 1) (nodesOf s) (both .0) in
-    let count : length rows ≡ nodesOf s = eqb-true (length rows) (nodesOf s) (both .1) in
+    let both = both-equal (length (edgesOf s) + 1) (nodesOf s) (length rows) (nodesOf s) (c .if-not-fits .ensures tt .test) in
+    let tree : length (edgesOf s) + 1 ≡ nodesOf s = both .0 in
+    let count : length rows ≡ nodesOf s = both .1 in
     let first : Kept rows fresh = renewed-kept rows fresh (nodesOf s) (c .renew-all .ensures) (omega (arith, tree)) count in
     let last : Kept fresh done = c .take-steps .ensures .kept in
     let D : directs fresh ≡ directs rows = fun-ext (λ k. first .direct k) in
