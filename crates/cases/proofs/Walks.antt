@@ -23,13 +23,19 @@ far pins = distanceOf planeSpace.ghosts plane pins
 
 -- the walk over the one forest that the chain is
 walks : (pins : List Spot) (p q : ℕ) (marks : List Mark) → Sound (length pins) (chain (far pins) (length pins - 1)) → ((v : ℕ) → v < length pins → walk (rules pins p q) 0 (links (far pins) 0 (length pins - 1)) start v ≡ getD marks v blank) → PlaneWalks pins p q marks
-walks pins p q marks s h = record {
-  seed = s;
-  walked = λ F g v l.
-      let n = length pins in
-      let only : F ≡ links (far pins) 0 (n - 1) = grows-only (accepted n (chain (far pins) (n - 1)) s) g (chain-grows (far pins) (n - 1)) in
-      ap (λ G. walk (rules pins p q) 0 G start v) only ∙ h v l;
-}
+walks pins p q marks s h =
+    let n = length pins in
+    let E = chain (far pins) (n - 1) in
+    let walked : (F : Forest) → Grows E 0 0 0 F → (v : ℕ) → v < n → walk (rules pins p q) 0 F start v ≡ getD marks v blank = λ F g v l.
+          let only : F ≡ links (far pins) 0 (n - 1) = grows-only (accepted n E s) g (chain-grows (far pins) (n - 1)) in
+          ap (λ G. walk (rules pins p q) 0 G start v) only ∙ h v l
+    in
+    record {
+      seed = s;
+      seen = (links (far pins) 0 (n - 1), chain-grows (far pins) (n - 1));
+      walked = walked;
+      call = λ S w v l. ap (λ T. T v) (w .is) ∙ walked (w .planted .forest) (w .planted .grows) v l;
+    }
 
 differ : (a b : ℕ) → a < b → a ≡ b → ⊥
 differ a b l e = omega arith

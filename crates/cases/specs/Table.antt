@@ -32,7 +32,8 @@ use Rattle.space.specs.contracts.plane.PlaneSpace.the-impl as planeSpace
 use Rattle.span.specs.Grown.{Grown}
 use Rattle.span.specs.Lengths.{Pinned, distanceOf}
 use Rattle.span.specs.Spanning.{Spanning}
-use Rattle.walk_laws.specs.Walk.{Mark, Rules, blank, home, hung, start, walk}
+use Rattle.walk.specs.Walked.{Walked}
+use Rattle.walk_laws.specs.Walk.{Mark, Rules, Table as Marks, blank, home, hung, start, walk}
 
 abbrev pub plane : Plane
 plane = record {}
@@ -89,10 +90,13 @@ chain d (suc k) = chain d k ++ edge k (suc k) (d k (suc k)) ∷ []
 abbrev pub rules : List Spot → (p q : ℕ) → Rules
 rules pins p q = record { p = p; q = q; pins = length pins; direct = distanceOf planeSpace.ghosts plane pins 0 }
 
--- A seed takes the edges of the chain, and the walk over the forest that they are seen from the driver leaves the marks.
+-- A seed takes the edges of the chain; they are seen from the driver as a forest, over which the walk leaves the marks; and so does the call
+-- that walks.
 pub record PlaneWalks (pins : List Spot) (p q : ℕ) (marks : List Mark) : Type 0 where
   pub seed : Sound (length pins) (chain (distanceOf planeSpace.ghosts plane pins) (length pins - 1))
+  pub seen : (F : Forest) × Grows (chain (distanceOf planeSpace.ghosts plane pins) (length pins - 1)) 0 0 0 F
   pub walked : (F : Forest) → Grows (chain (distanceOf planeSpace.ghosts plane pins) (length pins - 1)) 0 0 0 F → (v : ℕ) → v < length pins → walk (rules pins p q) 0 F start v ≡ getD marks v blank
+  pub call : (S : Marks) → Walked (rules pins p q) (length pins) (chain (distanceOf planeSpace.ghosts plane pins) (length pins - 1)) S → (v : ℕ) → v < length pins → S v ≡ getD marks v blank
 
 abbrev pub Holds : Fact → Type 0
 Holds (plane-meets o a b z) = plane-meet o a b ≡ Some z

@@ -15,6 +15,8 @@ use space::SpotDebug;
 use space::SpotPartialEq;
 use span::Spanner;
 use std::test::*;
+use walk::Allowance;
+use walk::Table;
 
 fn ground(x: i32, y: i32) -> Spot {
     Spot { x, y, level: 0 }
@@ -57,6 +59,46 @@ fn spaces() -> Result<(), Fail> {
         price: 6_400_001,
     };
     check(wide.widest() > 100_000_000)
+}
+
+// The marks of the walk over the seed that joins each pin with the next: estimate, parent, length and whether it is a breakpoint.
+fn check_walk(rt: &LibcRuntime, pins: &[Spot], p: u64, q: u64, marks: &[(u64, usize, u64, bool)]) -> Result<(), Fail> {
+    let mut seed = Seed::new(rt.alloc())?;
+    let mut table = Table::new(rt.alloc())?;
+    check(seed.restart(pins.len()).is_ok())?;
+    let mut driver = ground(0, 0);
+    let mut last = ground(0, 0);
+    for (i, pin) in pins.iter().enumerate() {
+        if i == 0 {
+            driver = *pin;
+        } else {
+            let length = Plane.distance(last, *pin).unwrap_or(0);
+            check(seed.join(i - 1, i, length).is_ok())?;
+        }
+        last = *pin;
+        check_eq(table.add(Plane.distance(driver, *pin).unwrap_or(0)), Some(i))?;
+    }
+    let allowance = Allowance::new(p, q).ok_or("no allowance")?;
+    check(table.walk(&seed, pins.len(), allowance))?;
+    for (i, (est, parent, edge, broken)) in marks.iter().copied().enumerate() {
+        let mark = table.mark(i).ok_or("no row")?;
+        check_eq((mark.est, mark.parent), (Some(est), parent))?;
+        check_eq((mark.edge, mark.broken), (edge, broken))?;
+    }
+    Ok(())
+}
+
+#[test]
+fn walks(rt: LibcRuntime) -> Result<(), Fail> {
+    let square = [ground(0, 0), ground(6, 0), ground(6, 6), ground(0, 6)];
+    let within = [(0, 0, 0, false), (6, 0, 6, false), (12, 1, 6, false), (18, 2, 6, false)];
+    let beyond = [(0, 0, 0, false), (6, 0, 6, false), (12, 1, 6, false), (6, 2, 6, true)];
+    check_walk(&rt, &square, 2, 1, &within)?;
+    check_walk(&rt, &square, 199, 100, &beyond)?;
+    let corner = [ground(0, 0), ground(5, 5), ground(5, 0)];
+    check_walk(&rt, &corner, 0, 1, &[(0, 0, 0, false), (10, 2, 5, false), (5, 1, 5, true)])?;
+    let fork = [ground(0, 0), ground(-6, 0), ground(4, 3), ground(5, 1)];
+    check_walk(&rt, &fork, 0, 1, &[(0, 0, 0, false), (6, 0, 6, false), (7, 1, 13, true), (6, 2, 3, true)])
 }
 
 #[test]

@@ -32,8 +32,8 @@ fn main(rt: LibcRuntime) -> Result<(), AnyError> {
 
 fn run(rt: &LibcRuntime) -> Result<(), AnyError> {
     let price = price_argument(rt)?;
-    let spots = read(rt)?;
     let allowance = allowance_argument(rt)?;
+    let spots = read(rt)?;
     let mut tables = Tables::new(rt.alloc())?;
     println!(rt, "plane")?;
     distances(rt, &Plane, &spots)?;

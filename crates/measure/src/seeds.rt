@@ -106,13 +106,13 @@ fn walked<S: Space>(
     allowance: Allowance,
 ) -> io::Result<()> {
     fill(&mut tables.table, space, pins);
-    if !tables.table.walk(&tables.seed, pins.len(), allowance) {
-        return Ok(());
+    let p = allowance.p();
+    let q = allowance.q();
+    if pins.len() < 2 || !tables.table.walk(&tables.seed, pins.len(), allowance) {
+        return println!(rt, "  no walk at {p}/{q}: no sinks");
     }
     let count = tables.table.breakpoints();
     let (figure, pin) = worst(&tables.table);
-    let p = allowance.p();
-    let q = allowance.q();
     println!(
         rt,
         "  walk at {p}/{q}: {count} breakpoints, worst estimate {figure} thousandths of the direct distance at pin {pin}"

@@ -15,6 +15,7 @@ use Rattle.walk_laws.specs.Walk as laws
 use Rattle.walk_laws.specs.Promise.{Guarantee}
 use Rattle.walk_laws.proofs.Keeps.{walk-keeps}
 use Rattle.walk_laws.proofs.Planting.{planted-spans, planted-fits}
+use Rattle.walk_laws.proofs.Seeing.{planted-seen}
 use Rattle.walk_laws.proofs.Looping.{Place, Descent, Rise, down-below, down-other, down-fits, down-room, place-down, climbs, place-start, place-end}
 use Rattle.walk.specs.declared.row.Row.{Row}
 use Rattle.walk.specs.Marks.{idle, marks, froms, gaps, nexts, directs, rulesOf, Places, Gone}
@@ -141,6 +142,7 @@ module _ (p q pins n : ℕ) (E : List Edge) (first rows : List Row) (pos : 0 < q
       let T : laws.Table → Type 0 = λ S. Guarantee R n (L .planted .forest) S in
       record {
         planted = L .planted;
+        seen = planted-seen n E s (L .planted);
         is = is;
         keeps = subst T (sym is) (walk-keeps R n (L .planted .rank) (L .planted .forest) pos (planted-spans n E s (L .planted)));
       }

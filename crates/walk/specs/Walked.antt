@@ -6,7 +6,7 @@ use lib.ListN.{length}
 use Rattle.forest.specs.declared.Edge.{Edge}
 use Rattle.forest.specs.Growth.{Planted}
 use Rattle.walk_laws.specs.Walk as laws
-use Rattle.walk_laws.specs.Promise.{Guarantee}
+use Rattle.walk_laws.specs.Promise.{Guarantee, SeenFrom}
 use Rattle.walk.specs.declared.row.Row.{Row}
 use Rattle.walk.specs.Marks.{marks, froms, nexts, directs}
 
@@ -20,6 +20,7 @@ pub record Ready (n : ℕ) (rows : List Row) : Type 0 where
 -- The edges E over n nodes are a tree seen from node 0, and S is what the walk over it gives, with all that this guarantees.
 pub record Walked (R : laws.Rules) (n : ℕ) (E : List Edge) (S : laws.Table) : Type 0 where
   pub planted : Planted n E
+  pub seen : SeenFrom n E (planted .forest)
   pub is : S ≡ laws.walk R 0 (planted .forest) laws.start
   pub keeps : Guarantee R n (planted .forest) S
 

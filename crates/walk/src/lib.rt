@@ -6,5 +6,4 @@ mod table;
 
 pub use allowance::Allowance;
 pub use row::Mark;
-pub use table::ROWS;
 pub use table::Table;

@@ -10,14 +10,11 @@ mod starting;
 mod stepping;
 mod walking;
 
-/// The most rows that a table has room for.
-pub const ROWS: usize = 768;
-
 /// A row for each node, numbered from 0: its direct distance from the driver, and what the walk knows of it.
 #[derive(Drop)]
 pub struct Table {
     rows: Vec<Row>,
-    ghost room: { 768 ≤ vec-cap rows },
-    ghost few: { length (vec-items rows) ≤ 768 },
+    ghost room: { 512 ≤ vec-cap rows },
+    ghost few: { length (vec-items rows) ≤ 512 },
     ghost near: { (k : ℕ) → directs (vec-items rows) k ≤ 100000000 },
 }

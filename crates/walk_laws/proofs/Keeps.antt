@@ -1,6 +1,6 @@
 -- The whole guarantee, from what holds at the end of the walk. Assumes a seed that is a tree and q at least 1.
 use mathlib.Core.Path.{_≡_, refl, sym, ap, subst, _∙_}
-use mathlib.Core.Logic.{_⊎_, inl, inr}
+use mathlib.Core.Logic.{_⊎_, inl, inr, ⊎-elim}
 use mathlib.Core.Bool.{Bool, true, false, cond, _||_}
 use Prim.Native.Nat.{ℕ, zero, suc, _+_, _*_, _≤_, _<_}
 use native.Mathlib.Nat.{mul-add, le-refl}
@@ -252,6 +252,14 @@ module _ (R : Rules) (n : ℕ) (rank : ℕ → ℕ) (F : Forest) (q : 0 < R .q) 
             long = T .long;
           }
 
+  -- Then no node is a breakpoint: each but the driver is the lower end of an edge.
+  unbroken : Spares R F → (v : ℕ) → v < n → walk R 0 F start v .broken ≡ false
+  unbroken keeps v h =
+      ⊎-elim
+      (λ (z : v ≡ 0). ap (λ x. walk R 0 F start x .broken) z ∙ ap (λ m. m .broken) (walk-standing .driver))
+      (λ (nz : v ≡ 0 → ⊥). let b = in-branch (T .all v h nz) 0 in ap (λ m. m .broken) (spared keeps (b .0) v (b .1) (b .2) .2))
+      (cases-eq v 0)
+
   pub guarantee : Guarantee R n F (walk R 0 F start)
   guarantee =
       let S : Table = walk R 0 F start in
@@ -270,6 +278,7 @@ module _ (R : Rules) (n : ℕ) (rank : ℕ → ℕ) (F : Forest) (q : 0 < R .q) 
         owed = owed S s;
         wire = wire S s;
         spared = spared;
+        unbroken = unbroken;
       }
 
 pub walk-keeps : Walk-keeps

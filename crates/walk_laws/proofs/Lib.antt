@@ -11,3 +11,4 @@ pub mod Bounds
 pub mod Trails
 pub mod Planting
 pub mod Looping
+pub mod Seeing

@@ -6,13 +6,24 @@ use Prim.Native.Nat.{ℕ, zero, suc, _+_, _*_, _≤_, _<_}
 use lib.Dec.{eqb}
 use Rattle.std.specs.declared.option.Option.{Option}
 use Rattle.std.specs.declared.option.Option.the-variants.{Some, None}
+use mathlib.Core.List.{List}
+use Rattle.forest.specs.Edges.{Near}
+use Rattle.forest.specs.Growth.{Grows}
 use Rattle.forest.specs.Rooted.{Forest, none, kid, wireOf, Ranked, In}
+use Rattle.forest.specs.declared.Edge.{Edge}
 use Rattle.walk_laws.specs.Walk.{Mark, Table, Rules, start, hung, walk}
 
 -- In the forest that hangs on v, the node w has the parent u, over an edge of length l.
 abbrev pub Branch : (v : ℕ) → Forest → (u w l : ℕ) → Type 0
 Branch v none u w l = ⊥
 Branch v (kid c k below others) u w l = ((u ≡ v) × (w ≡ c) × (l ≡ k)) ⊎ (Branch c below u w l ⊎ Branch v others u w l)
+
+-- The forest F is what the edges E over n nodes are seen from the driver: its branches are the edges and all of them, and no other forest
+-- grows from the driver.
+pub record SeenFrom (n : ℕ) (E : List Edge) (F : Forest) : Type 0 where
+  pub edges : (u w l : ℕ) → Branch 0 F u w l → Near E u w l
+  pub all-edges : (u w l : ℕ) → u < n → Near E u w l → Branch 0 F u w l ⊎ Branch 0 F w u l
+  pub only : (G : Forest) → Grows E 0 0 0 G → G ≡ F
 
 -- In the forest that hangs on a node e away from the driver along the seed, the node w is d away.
 abbrev pub Path : (e : ℕ) → Forest → (w d : ℕ) → Type 0
@@ -98,6 +109,7 @@ pub record Guarantee (R : Rules) (n : ℕ) (F : Forest) (S : Table) : Type 0 whe
   pub wire : sumTo (wireAt S) n ≤ wireOf F
   -- a seed that keeps the allowance itself is kept edge for edge
   pub spared : Spares R F → (u w l : ℕ) → Branch 0 F u w l → (d : ℕ) × Path 0 F w d × (S w ≡ hung u l d false)
+  pub unbroken : Spares R F → (v : ℕ) → v < n → S v .broken ≡ false
 
 -- The guarantee, whole.
 abbrev pub Walk-keeps : Type 0

@@ -1,4 +1,4 @@
--- Walks worked by hand. Assumes nothing.
+-- Walks worked by hand, beside those of the table of worked cases: a Steiner point, and a seed with branches. Assumes nothing.
 use mathlib.Core.Path.{_≡_}
 use mathlib.Core.List.{List, [], _∷_, map}
 use mathlib.Core.Bool.{true, false}
@@ -21,25 +21,10 @@ abbrev pub marksOf : Rules → Forest → List ℕ → List Mark
 marksOf R F vs = map (walk R 0 F start) vs
 
 pub record Worked : Type 0 where
-  -- the square (0,0), (6,0), (6,6), (0,6): within 2/1, and not within 199/100
-  pub square-within :
-      marksOf (rules 2 1 4 (0 ∷ 6 ∷ 12 ∷ 6 ∷ [])) (chain 1 (6 ∷ 6 ∷ 6 ∷ [])) (0 ∷ 1 ∷ 2 ∷ 3 ∷ []) ≡
-      home ∷ hung 0 6 6 false ∷ hung 1 6 12 false ∷ hung 2 6 18 false ∷ []
-  pub square-beyond :
-      marksOf (rules 199 100 4 (0 ∷ 6 ∷ 12 ∷ 6 ∷ [])) (chain 1 (6 ∷ 6 ∷ 6 ∷ [])) (0 ∷ 1 ∷ 2 ∷ 3 ∷ []) ≡
-      home ∷ hung 0 6 6 false ∷ hung 1 6 12 false ∷ hung 2 6 6 true ∷ []
-  -- the same square where the last node is a Steiner point, which never breaks
+  -- the square (0,0), (6,0), (6,6), (0,6) where the last node is a Steiner point, which never breaks
   pub square-steiner :
       marksOf (rules 199 100 3 (0 ∷ 6 ∷ 12 ∷ 6 ∷ [])) (chain 1 (6 ∷ 6 ∷ 6 ∷ [])) (0 ∷ 1 ∷ 2 ∷ 3 ∷ []) ≡
       home ∷ hung 0 6 6 false ∷ hung 1 6 12 false ∷ hung 2 6 18 false ∷ []
-  -- the pins (0,0), (5,5), (5,0): the pin 2 offers as much over a shorter edge, and becomes the parent of the pin 1
-  pub turned :
-      marksOf (rules 0 1 3 (0 ∷ 10 ∷ 5 ∷ [])) (chain 1 (10 ∷ 5 ∷ [])) (0 ∷ 1 ∷ 2 ∷ []) ≡
-      home ∷ hung 2 5 10 false ∷ hung 1 5 5 true ∷ []
-  -- the pins (0,0), (-6,0), (4,3), (5,1): two breakpoints in a row
-  pub two-breaks :
-      marksOf (rules 0 1 4 (0 ∷ 6 ∷ 7 ∷ 6 ∷ [])) (chain 1 (6 ∷ 13 ∷ 3 ∷ [])) (0 ∷ 1 ∷ 2 ∷ 3 ∷ []) ≡
-      home ∷ hung 0 6 6 false ∷ hung 1 13 7 true ∷ hung 2 3 6 true ∷ []
   -- the driver with the children 1 and 2, and 3 below 1: each child is walked
   pub branched :
       marksOf (rules 1 4 4 (0 ∷ 3 ∷ 4 ∷ 2 ∷ [])) (kid 1 3 (kid 3 2 none none) (kid 2 4 none none)) (0 ∷ 1 ∷ 2 ∷ 3 ∷ []) ≡

@@ -3,7 +3,6 @@ ghost use mathlib.Core.Path.{_≡_};
 ghost use lib.ListN.{length};
 ghost use Rattle.std.specs.Vec.{made};
 ghost use Rattle.walk.specs.Tables.{rowsOf, Added};
-use super::ROWS;
 use super::Table;
 use crate::row::Row;
 use seed::LONGEST;
@@ -16,7 +15,7 @@ impl Table {
     pub fn new(heap: Global) -> Result<Table, AllocError>
         ensures { λ r. ⌜ made r (λ t. rowsOf t ≡ []) ⌝ }
     {
-        let rows = Vec::with_capacity(heap, ROWS)?;
+        let rows = Vec::with_capacity(heap, NODES)?;
         Ok(Table { rows })
     }
 

@@ -7,5 +7,5 @@ unfolding walk
 returns c =
     record {
       worked =
-          record { square-within = refl; square-beyond = refl; square-steiner = refl; turned = refl; two-breaks = refl; branched = refl };
+          record { square-steiner = refl; branched = refl };
     }

@@ -19,7 +19,7 @@ ghost-self c =
     let new : Row = c .fresh .result in
     let is : rows′ ≡ rows ++ new ∷ [] = c .push-reserved .ensures .items in
     let P : List Row → Type 0 = λ x. (k : ℕ) → directs x k ≤ 100000000 in
-    let room : 768 ≤ vec-cap (c .push-reserved .last .self) = omega (arith, c .push-reserved .ensures .capacity, t .room) in
-    let few : length rows′ ≤ 768 = omega (arith, ap length is, length-push rows new) in
+    let room : 512 ≤ vec-cap (c .push-reserved .last .self) = omega (arith, c .push-reserved .ensures .capacity, t .room) in
+    let few : length rows′ ≤ 512 = omega (arith, ap length is, length-push rows new) in
     let near : (k : ℕ) → directs rows′ k ≤ 100000000 = subst P (sym is) (near-push rows new (omega (arith, ap (λ (r : Row). r .direct) (c .fresh .ensures))) (t .near)) in
     (room, (few, (near, tt)))
