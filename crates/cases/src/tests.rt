@@ -61,6 +61,14 @@ fn spaces() -> Result<(), Fail> {
     check(wide.widest() > 100_000_000)
 }
 
+// Whether the seed is walked, with the allowance p/q.
+fn walked(table: &mut Table, seed: &Seed, pins: usize, p: u64, q: u64) -> bool {
+    let Some(allowance) = Allowance::new(p, q) else {
+        return false;
+    };
+    table.walk(seed, pins, allowance)
+}
+
 // The marks of the walk over the seed that joins each pin with the next: estimate, parent, length and whether it is a breakpoint.
 fn check_walk(rt: &LibcRuntime, pins: &[Spot], p: u64, q: u64, marks: &[(u64, usize, u64, bool)]) -> Result<(), Fail> {
     let mut seed = Seed::new(rt.alloc())?;
@@ -78,8 +86,7 @@ fn check_walk(rt: &LibcRuntime, pins: &[Spot], p: u64, q: u64, marks: &[(u64, us
         last = *pin;
         check_eq(table.add(Plane.distance(driver, *pin).unwrap_or(0)), Some(i))?;
     }
-    let allowance = Allowance::new(p, q).ok_or("no allowance")?;
-    check(table.walk(&seed, pins.len(), allowance))?;
+    check(walked(&mut table, &seed, pins.len(), p, q))?;
     for (i, (est, parent, edge, broken)) in marks.iter().copied().enumerate() {
         let mark = table.mark(i).ok_or("no row")?;
         check_eq((mark.est, mark.parent), (Some(est), parent))?;
