@@ -27,8 +27,8 @@ walks pins p q marks s h =
     let n = length pins in
     let E = chain (far pins) (n - 1) in
     let walked : (F : Forest) → Grows E 0 0 0 F → (v : ℕ) → v < n → walk (rules pins p q) 0 F start v ≡ getD marks v blank = λ F g v l.
-          let only : F ≡ links (far pins) 0 (n - 1) = grows-only (accepted n E s) g (chain-grows (far pins) (n - 1)) in
-          ap (λ G. walk (rules pins p q) 0 G start v) only ∙ h v l
+    let only : F ≡ links (far pins) 0 (n - 1) = grows-only (accepted n E s) g (chain-grows (far pins) (n - 1)) in
+    ap (λ G. walk (rules pins p q) 0 G start v) only ∙ h v l
     in
     record {
       seed = s;

@@ -70,7 +70,13 @@ fn walked(table: &mut Table, seed: &Seed, pins: usize, p: u64, q: u64) -> bool {
 }
 
 // The marks of the walk over the seed that joins each pin with the next: estimate, parent, length and whether it is a breakpoint.
-fn check_walk(rt: &LibcRuntime, pins: &[Spot], p: u64, q: u64, marks: &[(u64, usize, u64, bool)]) -> Result<(), Fail> {
+fn check_walk(
+    rt: &LibcRuntime,
+    pins: &[Spot],
+    p: u64,
+    q: u64,
+    marks: &[(u64, usize, u64, bool)],
+) -> Result<(), Fail> {
     let mut seed = Seed::new(rt.alloc())?;
     let mut table = Table::new(rt.alloc())?;
     check(seed.restart(pins.len()).is_ok())?;
@@ -84,7 +90,10 @@ fn check_walk(rt: &LibcRuntime, pins: &[Spot], p: u64, q: u64, marks: &[(u64, us
             check(seed.join(i - 1, i, length).is_ok())?;
         }
         last = *pin;
-        check_eq(table.add(Plane.distance(driver, *pin).unwrap_or(0)), Some(i))?;
+        check_eq(
+            table.add(Plane.distance(driver, *pin).unwrap_or(0)),
+            Some(i),
+        )?;
     }
     check(walked(&mut table, &seed, pins.len(), p, q))?;
     for (i, (est, parent, edge, broken)) in marks.iter().copied().enumerate() {
@@ -98,14 +107,41 @@ fn check_walk(rt: &LibcRuntime, pins: &[Spot], p: u64, q: u64, marks: &[(u64, us
 #[test]
 fn walks(rt: LibcRuntime) -> Result<(), Fail> {
     let square = [ground(0, 0), ground(6, 0), ground(6, 6), ground(0, 6)];
-    let within = [(0, 0, 0, false), (6, 0, 6, false), (12, 1, 6, false), (18, 2, 6, false)];
-    let beyond = [(0, 0, 0, false), (6, 0, 6, false), (12, 1, 6, false), (6, 2, 6, true)];
+    let within = [
+        (0, 0, 0, false),
+        (6, 0, 6, false),
+        (12, 1, 6, false),
+        (18, 2, 6, false),
+    ];
+    let beyond = [
+        (0, 0, 0, false),
+        (6, 0, 6, false),
+        (12, 1, 6, false),
+        (6, 2, 6, true),
+    ];
     check_walk(&rt, &square, 2, 1, &within)?;
     check_walk(&rt, &square, 199, 100, &beyond)?;
     let corner = [ground(0, 0), ground(5, 5), ground(5, 0)];
-    check_walk(&rt, &corner, 0, 1, &[(0, 0, 0, false), (10, 2, 5, false), (5, 1, 5, true)])?;
+    check_walk(
+        &rt,
+        &corner,
+        0,
+        1,
+        &[(0, 0, 0, false), (10, 2, 5, false), (5, 1, 5, true)],
+    )?;
     let fork = [ground(0, 0), ground(-6, 0), ground(4, 3), ground(5, 1)];
-    check_walk(&rt, &fork, 0, 1, &[(0, 0, 0, false), (6, 0, 6, false), (7, 1, 13, true), (6, 2, 3, true)])
+    check_walk(
+        &rt,
+        &fork,
+        0,
+        1,
+        &[
+            (0, 0, 0, false),
+            (6, 0, 6, false),
+            (7, 1, 13, true),
+            (6, 2, 3, true),
+        ],
+    )
 }
 
 #[test]

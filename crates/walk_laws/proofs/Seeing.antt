@@ -23,11 +23,11 @@ module _ (n : ℕ) (E : List Edge) (a : Accepted n E) where
   near-child {v} {w} (grown {u = u} {l = l} least s t) x k near low other =
       ⊎-elim
       (λ (e : x ≡ u).
-          let P : ℕ → Type 0 = λ z. Near E v z k in
-          inl (refl, e, near-length a v u k l (subst P e near) (least .near)))
+      let P : ℕ → Type 0 = λ z. Near E v z k in
+      inl (refl, e, near-length a v u k l (subst P e near) (least .near)))
       (⊎-elim
-          (λ (b : x < u). absurd (past x u b (least .least x k near low other)))
-          (λ (b : u < x). inr (inr (near-child t x k near (omega arith) other))))
+      (λ (b : x < u). absurd (past x u b (least .least x k near low other)))
+      (λ (b : u < x). inr (inr (near-child t x k near (omega arith) other))))
       (cases-order x u)
     where
       past : (x u : ℕ) → x < u → u ≤ x → ⊥
@@ -39,8 +39,8 @@ module _ (n : ℕ) (E : List Edge) (a : Accepted n E) where
   near-branch {v} (grown {u = u} {l = l} least s t) here x k near =
       ⊎-elim
       (λ (e : x ≡ v).
-          let P : ℕ → Type 0 = λ z. Near E u z k in
-          inr (inl (e, refl, near-length a u v k l (subst P e near) (near-back (least .near)))))
+      let P : ℕ → Type 0 = λ z. Near E u z k in
+      inr (inl (e, refl, near-length a u v k l (subst P e near) (near-back (least .near)))))
       (λ (ne : x ≡ v → ⊥). inl (inr (inl (near-child s x k near (omega arith) ne))))
       (cases-eq x v)
   near-branch (grown least s t) (under i) x k near = ⊎-elim (λ b. inl (inr (inl b))) (λ b. inr (inr (inl b))) (near-branch s i x k near)
@@ -54,10 +54,10 @@ planted-seen n E s P =
       all-edges = λ u w l h near.
           ⊎-elim
           (λ (z : u ≡ 0).
-              let Q : ℕ → Type 0 = λ x. Near E x w l in
-              let B : ℕ → Type 0 = λ x. Branch 0 (P .forest) x w l in
-              let from = subst Q z near in
-              inl (subst B (sym z) (near-child n E a (P .grows) w l from (omega arith) (λ e. near-other a from (sym e)))))
+          let Q : ℕ → Type 0 = λ x. Near E x w l in
+          let B : ℕ → Type 0 = λ x. Branch 0 (P .forest) x w l in
+          let from = subst Q z near in
+          inl (subst B (sym z) (near-child n E a (P .grows) w l from (omega arith) (λ e. near-other a from (sym e)))))
           (λ (nz : u ≡ 0 → ⊥). near-branch n E a (P .grows) (P .all u h nz) w l near)
           (cases-eq u 0);
       only = λ G g. grows-only a g (P .grows);

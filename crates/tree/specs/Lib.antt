@@ -1,0 +1,4 @@
+pub mod Bests
+pub mod Hooks
+pub mod Shares
+pub mod Tables

@@ -1,0 +1,17 @@
+//! Trees as tables of rows: questions, changes, and the moves that shorten them.
+
+mod hook;
+mod refining;
+mod share;
+mod sharing;
+mod table;
+
+pub use hook::Hook;
+pub use hook::HookRank;
+pub use refining::Refiner;
+pub use share::Share;
+pub use share::ShareRank;
+pub use sharing::Sharer;
+pub use table::LONGEST;
+pub use table::ROWS;
+pub use table::Table;
