@@ -54,7 +54,7 @@ saved-other rows d e a w after s =
 
 -- ---- the space's distances
 
-uncut : (x k : ℕ) (b : Bool) → b ≡ true → x ≤ k → k ≤ 100000000 → min 100000000 (valueOr (answered b x) 0) ≡ x
+pub uncut : (x k : ℕ) (b : Bool) → b ≡ true → x ≤ k → k ≤ 100000000 → min 100000000 (valueOr (answered b x) 0) ≡ x
 uncut x k true e l n = omega arith
 uncut x k false e l n = let z : _≡_ {A = ℕ} 0 1 = cc in absurd (omega arith)
 

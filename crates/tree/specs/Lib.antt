@@ -1,4 +1,3 @@
 pub mod Bests
 pub mod Hooks
-pub mod Shares
 pub mod Tables

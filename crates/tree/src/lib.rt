@@ -2,16 +2,12 @@
 
 mod hook;
 mod refining;
-mod share;
-mod sharing;
 mod table;
 
 pub use hook::Hook;
 pub use hook::HookRank;
 pub use refining::Refiner;
-pub use share::Share;
-pub use share::ShareRank;
-pub use sharing::Sharer;
+pub use refining::reach;
 pub use table::LONGEST;
 pub use table::ROWS;
 pub use table::Table;

@@ -28,7 +28,7 @@ pub struct Refiner {
 }
 
 /// The distance of two spots, at most `LONGEST`; 0 where there is none.
-pub(crate) fn reach<S: Space>(space: &S, a: Spot, b: Spot) -> u64
+pub fn reach<S: Space>(space: &S, a: Spot, b: Spot) -> u64
     ensures value { λ r. ⌜ r ≡ reachOf S·Space (now (space .entry)) a b ⌝ }
     ensures bound { λ r. ⌜ r ≤ 100000000 ⌝ }
 {

@@ -85,6 +85,12 @@ pub record Hangs (rows : List Row) (v u : ℕ) : Type 0 where
   pub parent : u < length rows
   pub above : under rows u v ≡ false
 
+-- The row c hangs on v.
+pub record Child (rows : List Row) (v c : ℕ) : Type 0 where
+  pub row : c < length rows
+  pub moves : c ≡ 0 → ⊥
+  pub parent : up rows c ≡ v
+
 -- Changes of a table: a row hung on another parent, and a row added.
 abbrev pub hang : List Row → (v u l : ℕ) → List Row
 hang rows v u l = set rows v (record { parent = u; spot = spotOf rows v; length = l })

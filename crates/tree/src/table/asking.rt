@@ -30,7 +30,7 @@ impl Table {
     }
 
     /// The row `k`; a row of no length on the driver where there is none.
-    pub(crate) fn at(&self, k: usize) -> Row
+    pub fn at(&self, k: usize) -> Row
         ensures row { λ r. ⌜ r ≡ rowOf (rowsOf (now (self .entry))) k ⌝ }
         ensures short { λ r. ⌜ r .length ≤ 100000000 ⌝ }
     {

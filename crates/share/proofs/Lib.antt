@@ -1,0 +1,4 @@
+pub mod Measures
+pub mod Moves
+pub mod Placing
+pub mod Weighing
