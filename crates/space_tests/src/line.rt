@@ -56,12 +56,7 @@ pub impl Joining for Line as LineJoining {
 
     fn meet(&self, o: Spot, a: Spot, b: Spot) -> Option<Spot> {
         if on_line(o) && on_line(a) && on_line(b) {
-            let x = middle(o.x, a.x, b.x);
-            Some(Spot {
-                x,
-                y: o.y,
-                level: 0,
-            })
+            Some(median(o, a, b))
         } else {
             None
         }
