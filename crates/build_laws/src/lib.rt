@@ -1,4 +1,7 @@
 //! What a finished walk becomes: the straight tree and the joined tree, and what they keep.
+
+#![tactic(auto)]
+
 ghost use Rattle.build_laws.specs.Joining.{JoiningKeeps};
 ghost use Rattle.build_laws.specs.Straight.{StraightKeeps};
 

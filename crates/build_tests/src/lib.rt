@@ -1,5 +1,7 @@
 //! A large net, built and shortened until no move is left; and the calls that build and join trees, on tables of their own.
 
+#![tactic(auto)]
+
 #[cfg(test)]
 mod large;
 #[cfg(test)]

@@ -1,5 +1,5 @@
 -- Each row of the table holds: both sides compute. Assumes nothing.
-use Rattle.std.proofs.Common.{◌≡◌, refl}
+use Rattle.std.proofs.Common.{refl}
 use Rattle.std.specs.List.{AllByRecursion as All}
 use Rattle.space.specs.Shapes.{root_from, root_above}
 use Rattle.walk_laws.specs.Walk.{walk}

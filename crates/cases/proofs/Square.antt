@@ -2,7 +2,6 @@
 use Rattle.std.proofs.Common.{◌≡◌, ℕ, zero, suc, ◌<◌, ◌≤◌, Bool, true, ◌||◌, eqb, leb, Ok, Err, Result, refl, ap, ◌∙◌, ⊎_elim, arith}
 use Rattle.std.proofs.lemmas.Bool.{eqb-true, leb-true, or_cases}
 use Rattle.forest.specs.Edges.{wire}
-use Rattle.forest.specs.declared.Edge.{Edge}
 use Rattle.seed.specs.Seeds.{edges_of}
 use Rattle.seed.specs.declared.store.Refusal.{Refusal}
 use Rattle.seed.specs.declared.store.Refusal.TheVariants as refusal
@@ -10,7 +9,7 @@ use Rattle.seed.specs.declared.store.Seed.{Seed}
 use Rattle.span.specs.Grown.{Grown}
 use Rattle.space.specs.contracts.plane.PlaneSpace.TheImpl as planeSpace
 use Rattle.span.specs.Lengths.{Pinned, distance_of, spot_of}
-use Rattle.span.specs.Spanning.{Spanning, Steps, link_of}
+use Rattle.span.specs.Spanning.{Spanning, Steps}
 use Rattle.span.proofs.Checks.{every, every_at, first_by, pair_by}
 use Rattle.span.proofs.Steps.{spanning_only}
 use Rattle.cases.specs.Table.{PlaneSpans, plane, square, square_seed}

@@ -1,9 +1,8 @@
 -- The walks of the table. Assumes nothing.
-use Rattle.std.proofs.Common.{◌≡◌, ℕ, zero, suc, ◌-◌, ◌<◌, List, length, get_or, sym, refl, ap, ◌∙◌, subst, arith}
-use Rattle.forest.specs.Edges.{Joined, Sound}
+use Rattle.std.proofs.Common.{◌≡◌, ℕ, zero, suc, ◌-◌, ◌<◌, List, length, get_or, ap, ◌∙◌, arith}
+use Rattle.forest.specs.Edges.{Sound}
 use Rattle.forest.specs.Growth.{Grows}
 use Rattle.forest.specs.Rooted.{Forest}
-use Rattle.forest.specs.declared.Edge.{Edge}
 use Rattle.forest.proofs.Accepted.{accepted}
 use Rattle.forest.proofs.Labelled.{joined_label}
 use Rattle.forest.proofs.Nearest.{grows_only}

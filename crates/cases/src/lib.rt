@@ -1,4 +1,7 @@
 //! The worked cases of every layer: one table, and one theorem that each of its rows holds.
+
+#![tactic(auto)]
+
 ghost use Rattle.std.specs.Prelude.{◌≡◌, length};
 ghost use Rattle.std.specs.List.{AllByRecursion as All};
 ghost use Rattle.cases.specs.Table.{Holds, table};

@@ -1,5 +1,7 @@
 //! Edges between numbered nodes, and the trees that they make: definitions and lemmas.
 
+#![tactic(auto)]
+
 /// An edge joins the nodes `a` and `b`.
 #[derive(Clone, Copy)]
 pub struct Edge {

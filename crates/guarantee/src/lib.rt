@@ -1,5 +1,7 @@
 //! Lists of calls on a net, and what holds after every one of them.
 
+#![tactic(auto)]
+
 mod answering;
 mod running;
 

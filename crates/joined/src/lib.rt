@@ -1,5 +1,7 @@
 //! Joining rows that hang on the driver: pair after pair gets a row where the ways to both part.
 
+#![tactic(auto)]
+
 mod joining;
 mod pair;
 mod partners;

@@ -1,3 +1,5 @@
+#![tactic(auto)]
+
 // Measures a net in each built space. Standard input has a spot `x,y,level` a line, the driver first; the first
 // argument is the price of the lift, 40 where there is none; the second is the allowance p/q of the walk, 1/4 where there is none.
 mod reading;

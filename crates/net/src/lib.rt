@@ -1,5 +1,7 @@
 //! A net: pins, Steiner points and edges in a wiring space, the tree that is built from them, and the moves that shorten it.
 
+#![tactic(auto)]
+
 mod asking;
 mod board;
 mod net;

@@ -1,4 +1,7 @@
 //! The worked nets, as calls: one table, and one theorem that each of its rows holds.
+
+#![tactic(auto)]
+
 ghost use Rattle.std.specs.Prelude.{◌≡◌, length};
 ghost use Rattle.std.specs.List.{AllByRecursion as All};
 ghost use Rattle.net_cases.specs.Table.{Holds, table};

@@ -1,5 +1,7 @@
 //! What a net's calls answer, and what holds after every list of them: definitions and proofs.
 
+#![tactic(auto)]
+
 mod call;
 mod fault;
 mod reading;

@@ -1,5 +1,7 @@
 //! Nets by their calls: lists of them over several spaces, every refusal, the limits, and the worked nets.
 
+#![tactic(auto)]
+
 #[cfg(test)]
 mod asking;
 #[cfg(test)]

@@ -1,5 +1,7 @@
 //! The first of several candidates, under an order without ties.
 
+#![tactic(auto)]
+
 mod link;
 mod search;
 

@@ -1,3 +1,5 @@
+#![tactic(auto)]
+
 // Routes a net from its pins to its tree, in a lift over plane and in a lift over air. Standard input has a spot `x,y,level` a line,
 // the driver first; the first argument is the price of the lift, 40 where there is none; the second is the allowance p/q, 1/4 where
 // there is none.

@@ -1,10 +1,10 @@
 -- Lemmas on the labels that a seed keeps.
-use Rattle.std.proofs.Common.{◌≡◌, ℕ, ◌<◌, ◌≤◌, true, cond, eqb, List, [], ◌∷◌, ◌++◌, length, get_or, Decides, sym, refl, ap, ◌∙◌, subst, arith}
+use Rattle.std.proofs.Common.{◌≡◌, ℕ, ◌<◌, ◌≤◌, cond, eqb, List, [], ◌∷◌, ◌++◌, length, get_or, Decides, sym, ap, ◌∙◌, arith}
 use Rattle.std.proofs.lemmas.Bool.{eq-eqb, eqb-true}
 use Rattle.std.proofs.lemmas.List.{get_or_read_under}
 use Rattle.forest.specs.declared.Edge.{Edge}
 use Rattle.forest.specs.Edges.{Joined}
-use Rattle.forest.specs.Labels.{merged, label_of}
+use Rattle.forest.specs.Labels.{label_of}
 use Rattle.forest.proofs.Labelled.{label_joined, joined_label, label_push}
 
 -- The list has the label of each node that a seed can have.

@@ -1,5 +1,7 @@
 //! The share move: a new row where the ways from a row to two of its children part.
 
+#![tactic(auto)]
+
 mod parting;
 mod share;
 mod sharing;

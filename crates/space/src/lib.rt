@@ -1,3 +1,5 @@
+#![tactic(auto)]
+
 // Wiring spaces: which spots a router may use, how far apart two spots are and, where wires can be joined, where.
 // `docs/spaces.md` states every rule and limit in plain words.
 ghost use Rattle.std.specs.Prelude.{◌≡◌, ℕ, ◌≤◌, Bool, ◌&&◌};

@@ -1,3 +1,5 @@
+#![tactic(auto)]
+
 // Spaces of another crate than `space`, with their laws proved here, and tests at the ends of every range.
 pub mod line;
 #[cfg(test)]

@@ -1,11 +1,11 @@
 -- What each call keeps while a spanning seed grows, and what it is in the end. Assumes nothing.
-use Rattle.std.proofs.Common.{◌≡◌, ℕ, ◌+◌, ◌<◌, ◌≤◌, min, max, Bool, true, false, ◌&&◌, List, [], ◌∷◌, ◌++◌, map, length, filter, Result, unwrap_or, sym, refl, ap, ◌∙◌, subst, arith}
+use Rattle.std.proofs.Common.{◌≡◌, ℕ, ◌+◌, ◌<◌, ◌≤◌, min, max, Bool, true, false, List, [], ◌∷◌, ◌++◌, map, length, filter, Result, unwrap_or, sym, ap, ◌∙◌, subst, arith}
 use Rattle.std.proofs.lemmas.List.{length_push}
 use Rattle.std.proofs.lemmas.Bool.{and_from}
 use Rattle.order.specs.Firsts.{First}
 use Rattle.order.specs.Links.{link_before}
 use Rattle.order.specs.declared.link.Link.{Link}
-use Rattle.forest.specs.Edges.{Joined, wire}
+use Rattle.forest.specs.Edges.{wire}
 use Rattle.forest.specs.declared.Edge.{Edge}
 use Rattle.forest.proofs.Accepted.{Accepted, accepted}
 use Rattle.forest.proofs.Chains.{joined_on}
@@ -19,7 +19,7 @@ use Rattle.space.specs.declared.Space.{Ghosts}
 use Rattle.space.specs.declared.spot.Spot.{Spot}
 use Rattle.span.specs.Grown.{Growing, Spanned}
 use Rattle.span.specs.Lengths.{Pinned, distance_of, lengths, spot_of}
-use Rattle.span.specs.Spanning.{Alone, FirstPair, Firsts, Spanning, Steps, elsewhere, fan, offered}
+use Rattle.span.specs.Spanning.{Alone, FirstPair, Firsts, Steps, elsewhere, fan, offered}
 use Rattle.span.proofs.Steps.{alone_more, alone_none, first_pair, firsts_more, firsts_none, firsts_start, spanning, spanning_agrees, spanning_only, steps_more, steps_none}
 
 -- the edges of a seed are accepted, over as many nodes as it has

@@ -1,21 +1,21 @@
 -- How the spanning seed grows: the first of the firsts is the first of all pairs, and each step keeps the firsts. Assumes nothing.
-use Rattle.std.proofs.Common.{◌≡◌, ℕ, zero, suc, ◌+◌, ◌<◌, ◌≤◌, Bool, true, false, cond, not, eqb, ◌⊎◌, List, [], ◌∷◌, ◌++◌, map, length, get_or, take, filter, sym, refl, ap, ◌∙◌, subst, inl, inr, ⊎_elim, add-one, arith}
+use Rattle.std.proofs.Common.{◌≡◌, ℕ, zero, suc, ◌+◌, ◌<◌, ◌≤◌, Bool, true, false, cond, ◌⊎◌, List, [], ◌∷◌, ◌++◌, map, length, get_or, take, filter, sym, refl, ap, ◌∙◌, subst, inl, inr, ⊎_elim, add-one, arith}
 use Rattle.std.proofs.lemmas.List.{length_push, get_or_push, take_all, take_more, take-append-le, get_or_append_left}
-use Rattle.std.proofs.lemmas.Bool.{cases_Bool, cases_eq, cases_lt, eq-eqb, ne_eqb, eqb-false, not-true, not_from_false}
+use Rattle.std.proofs.lemmas.Bool.{cases_Bool, cases_eq, cases_lt, ne_eqb, eqb-false, not-true, not_from_false}
 use Rattle.order.specs.Firsts.{Among, First}
 use Rattle.order.specs.Firsts.Among.{here, there}
 use Rattle.order.specs.Links.{link_before}
 use Rattle.order.specs.declared.link.Link.{Link}
 use Rattle.order.proofs.Finding.{among_either, among_left, among_none, among_one, among_right, first_keeps, first_one, first_takes, first_unique, never_itself, not_before}
 use Rattle.order.specs.Lexical.{link_order}
-use Rattle.forest.specs.Edges.{Between, Joined, Near}
+use Rattle.forest.specs.Edges.{Joined, Near}
 use Rattle.forest.specs.Edges.Joined.{same, step}
 use Rattle.forest.specs.Labels.{label_of}
 use Rattle.forest.specs.declared.Edge.{Edge}
 use Rattle.forest.proofs.Accepted.{Accepted}
 use Rattle.forest.proofs.Chains.{Newly, joined_new, joined_none, joined_on, joined_one, joined_push, near_cases}
 use Rattle.forest.proofs.Heads.{one_part}
-use Rattle.forest.proofs.Labelled.{joined_label, label_joined}
+use Rattle.forest.proofs.Labelled.{joined_label}
 use Rattle.span.specs.Spanning.{Alone, FirstPair, Firsts, Pair, Spanning, Steps, better, elsewhere, fan, link, link_of, offered}
 
 -- ---- the first of two

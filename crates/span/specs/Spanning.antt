@@ -1,5 +1,5 @@
 -- The spanning seed: from pin 0, each step adds the first of all pairs of a pin inside and a pin outside. Assumes nothing.
-use Rattle.std.specs.Prelude.{◌≡◌, ℕ, zero, suc, ◌+◌, ◌<◌, Bool, true, false, cond, not, List, [], ◌∷◌, ◌++◌, length, take, ◌==◌, slice_index_or}
+use Rattle.std.specs.Prelude.{◌≡◌, ℕ, zero, suc, ◌+◌, ◌<◌, Bool, false, cond, not, List, [], ◌∷◌, ◌++◌, length, take, ◌==◌, slice_index_or}
 use Rattle.order.specs.Firsts.{Among}
 use Rattle.order.specs.Links.{link_before}
 use Rattle.order.specs.declared.link.Link.{Link}

@@ -1,5 +1,7 @@
 //! The spanning seed of a net's pins, in any wiring space.
 
+#![tactic(auto)]
+
 mod growing;
 mod links;
 

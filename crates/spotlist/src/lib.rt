@@ -1,3 +1,5 @@
+#![tactic(auto)]
+
 // Spots as text, one `x,y,level` a line.
 ghost use Rattle.spotlist.specs.Lines.{Read, Writes, WritesNatural, Numbers, Ratio, SpotLine};
 

@@ -1,5 +1,7 @@
 //! Trees as tables of rows: questions, changes, and the moves that shorten them.
 
+#![tactic(auto)]
+
 mod hook;
 mod refining;
 mod table;

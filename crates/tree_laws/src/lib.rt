@@ -1,4 +1,7 @@
 //! Trees as tables of rows: definitions and lemmas.
+
+#![tactic(auto)]
+
 use space::Spot;
 
 /// A row of a tree: the row it hangs on (0 for the driver), its spot, and its distance from its parent (0 for the driver).

@@ -1,11 +1,11 @@
 -- Rows made fresh one after another, and rows that are added. Assumes nothing.
-use Rattle.std.proofs.Common.{◌≡◌, ℕ, zero, suc, ◌+◌, ◌<◌, ◌≤◌, true, false, cond, ◌&&◌, eqb, ◌⊎◌, List, [], ◌∷◌, ◌++◌, length, get_or, set, Some, None, Option, sym, refl, ap, ◌∙◌, subst, inl, inr, arith, length-set, get_or-set_other, get_or-set_same}
+use Rattle.std.proofs.Common.{◌≡◌, ℕ, zero, suc, ◌+◌, ◌<◌, ◌≤◌, true, false, ◌&&◌, eqb, ◌⊎◌, List, [], ◌∷◌, ◌++◌, length, get_or, set, Some, None, Option, sym, refl, ap, ◌∙◌, inl, inr, arith, length-set, get_or-set_other, get_or-set_same}
 use mathlib.Core.Path.{fun_ext}
 use Rattle.std.proofs.lemmas.List.{get_or_past}
 use Rattle.std.proofs.lemmas.Bool.{and_parts, cases_eq, cases_lt, eqb-true, cond-true, cond-false, eq-eqb, ne_eqb}
 use Rattle.walk_laws.specs.Walk as laws
 use Rattle.walk.specs.declared.row.Row.{Row}
-use Rattle.walk.specs.Marks.{idle, seen, marks, froms, nexts, directs, fresh_mark, fresh_row}
+use Rattle.walk.specs.Marks.{idle, seen, marks, directs, fresh_mark, fresh_row}
 use Rattle.walk.specs.Tables.{Renewed}
 use Rattle.walk.specs.Walked.{Ready, Kept}
 

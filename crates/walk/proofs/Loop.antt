@@ -1,17 +1,17 @@
 -- The loop over the rows: what holds at each turn. Assumes sound edges that are planted.
-use Rattle.std.proofs.Common.{◌≡◌, ℕ, ◌+◌, ◌*◌, ◌<◌, ◌≤◌, ◌⊎◌, List, length, get_or, Some, None, sym, refl, ap, ◌∙◌, subst, inl, inr, arith}
+use Rattle.std.proofs.Common.{◌≡◌, ℕ, ◌+◌, ◌*◌, ◌<◌, ◌≤◌, List, length, get_or, Some, sym, refl, ap, ◌∙◌, subst, arith}
 use mathlib.Core.Path.{fun_ext}
 use Rattle.forest.specs.declared.Edge.{Edge}
 use Rattle.forest.specs.Edges.{Sound}
 use Rattle.forest.specs.Growth.{Planted, Least, Nothing}
-use Rattle.forest.specs.Rooted.{wire_of, size_of}
+use Rattle.forest.specs.Rooted.{size_of}
 use Rattle.forest.proofs.Accepted.{Accepted, accepted}
 use Rattle.walk_laws.specs.Walk as laws
 use Rattle.walk_laws.specs.Promise.{Guarantee}
 use Rattle.walk_laws.proofs.Keeps.{walk_keeps_lem}
 use Rattle.walk_laws.proofs.Planting.{planted_spans, planted_fits}
 use Rattle.walk_laws.proofs.Seeing.{planted_seen}
-use Rattle.walk_laws.proofs.Looping.{Place, Descent, Rise, down_below, down_other, down_fits, down_room, place_down, climbs, place_start, place_end}
+use Rattle.walk_laws.proofs.Looping.{Place, Rise, down_below, down_other, down_fits, down_room, place_down, climbs, place_start, place_end}
 use Rattle.walk.specs.declared.row.Row.{Row}
 use Rattle.walk.specs.Marks.{idle, marks, froms, gaps, nexts, directs, rules_of, Places, Gone}
 use Rattle.walk.specs.Walked.{Ready, Walked}

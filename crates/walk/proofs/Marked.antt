@@ -1,12 +1,12 @@
 -- A change of one row as a change of one mark. Assumes that the row is there.
-use Rattle.std.proofs.Common.{◌≡◌, ℕ, ◌+◌, ◌<◌, cond, eqb, ◌⊎◌, List, length, get_or, set, Some, None, Option, sym, refl, ap, ◌∙◌, subst, inl, inr, arith, length-set, get_or-set_other, get_or-set_same}
+use Rattle.std.proofs.Common.{◌≡◌, ℕ, ◌+◌, ◌<◌, ◌⊎◌, List, length, get_or, set, Some, None, Option, sym, refl, ap, ◌∙◌, inl, inr, arith, length-set, get_or-set_other, get_or-set_same}
 use mathlib.Core.Path.{fun_ext}
-use Rattle.std.proofs.lemmas.Bool.{cases_eq, cond-true, cond-false, eq-eqb, ne_eqb}
+use Rattle.std.proofs.lemmas.Bool.{cases_eq}
 use Rattle.walk_laws.specs.Walk as laws
 use Rattle.walk_laws.proofs.Steps.{put_same, put_other}
 use Rattle.walk.specs.declared.row.Mark.{Mark}
 use Rattle.walk.specs.declared.row.Row.{Row}
-use Rattle.walk.specs.Marks.{seen, idle, marks, froms, gaps, nexts, directs, Places, Gone, entered_by, rules_of}
+use Rattle.walk.specs.Marks.{seen, idle, marks, directs, Places, Gone, entered_by, rules_of}
 
 pub marks_set : (rows : List Row) (v : ℕ) (r : Row) → v < length rows → marks (set rows v r) ≡ laws.put (marks rows) v (seen r.mark)
 marks_set rows v r h = fun_ext (λ x. go x (cases_eq x v))

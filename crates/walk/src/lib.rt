@@ -1,5 +1,7 @@
 //! The walk over a seed: which sinks break off and get a wire of their own, and on which neighbour every other node hangs.
 
+#![tactic(auto)]
+
 mod allowance;
 mod row;
 mod table;

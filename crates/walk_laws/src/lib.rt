@@ -1,3 +1,5 @@
+#![tactic(auto)]
+
 // The laws of the walk, as plain mathematics.
 ghost use Rattle.walk_laws.specs.Promise.{WalkKeeps};
 ghost use Rattle.walk_laws.specs.Worked.{Worked};

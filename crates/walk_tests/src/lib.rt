@@ -1,4 +1,6 @@
 //! Walks over whole seeds, held to marks that were worked out by hand.
 
+#![tactic(auto)]
+
 #[cfg(test)]
 mod tests;

@@ -1,10 +1,10 @@
 use Rattle.spotlist.proofs.three.Goals as goal
 
-pub returns-in-default : goal.returns-in-default
-returns-in-default c s n = c.in-default.ensures s.x n.x
+pub returns-in_default : goal.returns-in_default
+returns-in_default c s n = c.in_default.ensures s.x n.x
 
-pub returns-in-default-number : goal.returns-in-default-number
-returns-in-default-number c s n = c.in-default-number.ensures s.y n.y
+pub returns-in_default-number : goal.returns-in_default-number
+returns-in_default-number c s n = c.in_default-number.ensures s.y n.y
 
-pub returns-in-default-number-2 : goal.returns-in-default-number-2
-returns-in-default-number-2 c s n = c.in-default-number-2.ensures s.level n.level
+pub returns-in_default-number-2 : goal.returns-in_default-number-2
+returns-in_default-number-2 c s n = c.in_default-number-2.ensures s.level n.level

@@ -12,16 +12,16 @@ returns g c =
     let s = c.args.wiring.now.space in
     let z = c.args.joining.now.space in
     record {
-      wiring-count = c.run-first.ensures.count;
+      wiring_count = c.run-first.ensures.count;
       wiring = λ e.
           let w = fresh_tied (wiring g.W.Space s) (wiring_keeps g.W.Space s (g.met.W.Space.metric s)) in
           let P : State → Type 0 = λ n. Whole g.W.Space s n → Kept (wiring g.W.Space s) n (wired (take c.run-first.result c.args.calls.now)) (take c.run-first.result c.run-first.new.answers) (seen c.run-first.new.net.board) × Whole g.W.Space s (seen c.run-first.new.net.board) in
           (subst P e c.run-first.ensures.kept w).0;
-      wiring-stays = c.run-first.ensures.stays;
-      joining-count = c.run-joining-second.ensures.count;
+      wiring_stays = c.run-first.ensures.stays;
+      joining_count = c.run_joining-second.ensures.count;
       joining = λ e.
           let w = fresh_tied (joining g.J.Space g.J.Joining z) (joining_keeps_lem g.J.Space g.J.Joining z (g.met.J.Space.metric z) (g.met.J.Joining.meets z)) in
-          let P : State → Type 0 = λ n. Whole g.J.Space z n → Kept (joining g.J.Space g.J.Joining z) n (take c.run-joining-second.result c.args.joining-calls.now) (take c.run-joining-second.result c.run-joining-second.new.answers) (seen c.run-joining-second.new.net.board) × Whole g.J.Space z (seen c.run-joining-second.new.net.board) in
-          (subst P e c.run-joining-second.ensures.kept w).0;
-      joining-stays = c.run-joining-second.ensures.stays;
+          let P : State → Type 0 = λ n. Whole g.J.Space z n → Kept (joining g.J.Space g.J.Joining z) n (take c.run_joining-second.result c.args.joining_calls.now) (take c.run_joining-second.result c.run_joining-second.new.answers) (seen c.run_joining-second.new.net.board) × Whole g.J.Space z (seen c.run_joining-second.new.net.board) in
+          (subst P e c.run_joining-second.ensures.kept w).0;
+      joining_stays = c.run_joining-second.ensures.stays;
     }

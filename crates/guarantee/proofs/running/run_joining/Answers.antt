@@ -29,12 +29,12 @@ loop-i-preserved g c =
     let calls = c.args.calls.now in
     let xs = c.loop-i.answers in
     let n = seen c.loop-i.net.board in
-    let m = seen c.make-joining.new.net.board in
-    let r = c.make-joining.result in
+    let m = seen c.make_joining.new.net.board in
+    let r = c.make_joining.result in
     let d : JoinCall = Wire (Pin (record { x = pos 0; y = pos 0; level = pos 0 })) in
     let call : JoinCall = get_or calls i d in
     let P : g.row.S.Denot → Type 0 = λ x. Whole G x n → JoinAnswers (joining G J x) n m call r × Whole G x m in
-    let a = subst P c.loop-i.invariant.2 c.make-joining.ensures.answer in
+    let a = subst P c.loop-i.invariant.2 c.make_joining.ensures.answer in
     let h : i < length calls = omega (arith, c.min-count.ensures) in
     let k : i < length xs = omega (arith, c.min-count.ensures, c.loop-i.auto.answers) in
     let n₀ = seen c.args.net.now.board in
@@ -45,7 +45,7 @@ loop-i-preserved g c =
           let x = a b.1 in
           (subst Q (sym (take_more calls i d h)) (subst R (sym (take_more_set xs i r k)) (kept_more (joining G J s) (joining_keeps_lem G J s (g.met.S.Space.metric s) (g.met.S.Joining.meets s)) n₀ (take i calls) (take i xs) n m (call) r b.0 x.0)), x.1),
       rest_more c.args.answers.now xs i r c.loop-i.invariant.1,
-      c.make-joining.ensures.stays ∙ c.loop-i.invariant.2,
+      c.make_joining.ensures.stays ∙ c.loop-i.invariant.2,
     )
 
 pub returns : goal.returns

@@ -6,9 +6,9 @@ pub loop-i-preserved : goal.loop-i-preserved
 loop-i-preserved c =
     let xs = c.args.members.now in
     let i = c.loop-i.i in (
-      c.push-reserved.ensures.items ∙ ap (λ ys. ys ++ get_or xs i 0 ∷ []) c.loop-i.invariant.0 ∙ sym (take_more xs i 0 c.loop-i-test.true),
-      omega (arith, c.push-reserved.ensures.len, c.loop-i.invariant.1),
-      c.push-reserved.ensures.capacity ∙ c.loop-i.invariant.2,
+      c.push_reserved.ensures.items ∙ ap (λ ys. ys ++ get_or xs i 0 ∷ []) c.loop-i.invariant.0 ∙ sym (take_more xs i 0 c.loop-i-test.true),
+      omega (arith, c.push_reserved.ensures.len, c.loop-i.invariant.1),
+      c.push_reserved.ensures.capacity ∙ c.loop-i.invariant.2,
     )
 
 pub returns : goal.returns

@@ -33,11 +33,11 @@ loop-i-preserved g c =
     let more : take (i + 1) group ≡ take i group ++ x ∷ [] = take_more group i 0 c.loop-i-test.true in
     elim c.if-a-b.branch [
       | then-a-b w ↦
-          let e : vec_items w.push-reserved.new.self ≡ old ++ pair_of d j rows x b ∷ [] = w.push-reserved.ensures.items ∙ ap (λ y. old ++ y ∷ []) w.pair.ensures in
+          let e : vec_items w.push_reserved.new.self ≡ old ++ pair_of d j rows x b ∷ [] = w.push_reserved.ensures.items ∙ ap (λ y. old ++ y ∷ []) w.pair.ensures in
           rw w.candidates-is (
             subst (P (take (i + 1) group)) (sym e) (subst (λ xs. P xs (old ++ pair_of d j rows x b ∷ [])) (sym more) (partner_push d j rows (take i group) x b old c.loop-i.invariant.0 w.if-a-b.true)),
-            omega (arith, w.push-reserved.ensures.len, c.loop-i.invariant.1),
-            w.push-reserved.ensures.capacity ∙ c.loop-i.invariant.2,
+            omega (arith, w.push_reserved.ensures.len, c.loop-i.invariant.1),
+            w.push_reserved.ensures.capacity ∙ c.loop-i.invariant.2,
           )
       | else-a-b w ↦
           rw w.candidates-is (
@@ -59,6 +59,6 @@ returns g c =
     let Q : List ℕ → Type 0 = λ xs. Decides pair_before (Partner d j rows xs b) F in
     let all : take c.loop-i.i group ≡ group = take_all c.loop-i.i group (omega arith) in
     record {
-      best = partner_best d j rows group b F c.first.result (subst Q all c.loop-i.invariant.0) (subst P c.as-slice.ensures.value c.first.ensures.first);
+      best = partner_best d j rows group b F c.first.result (subst Q all c.loop-i.invariant.0) (subst P c.as_slice.ensures.value c.first.ensures.first);
       room = c.loop-i.invariant.2 ∙ c.clear.ensures.capacity;
     }

@@ -9,7 +9,7 @@ use Rattle.joined.specs.Pairs.{Firsts, FirstsOf, Lasting}
 use Rattle.joined.proofs.Partnering.{firsts_none, renew_none, renew_some, renewed_none, renewed_some}
 use Rattle.joined.proofs.Keeping.{among_here}
 use Rattle.joined.proofs.partners.renew.Goals as goal
-use Rattle.joined.proofs.partners.renew.Goals.{in-Some, in-default}
+use Rattle.joined.proofs.partners.renew.Goals.{in-Some, in_default}
 
 -- what is read past the end of a list
 abbrev blank : Pair
@@ -47,17 +47,17 @@ loop-i-preserved g c =
     elim c.match-again.branch [
       | in-Some w ↦
           rw w.partners-is (
-            subst P (sym w.push-reserved.ensures.items) (renew_some d j rows group a b olds i blank h F c.loop-i.invariant.0 w.in-Some.kept w.in-Some.ensures.again),
-            omega (arith, w.push-reserved.ensures.len, c.loop-i.invariant.1),
-            w.push-reserved.ensures.capacity ∙ c.loop-i.invariant.2,
+            subst P (sym w.push_reserved.ensures.items) (renew_some d j rows group a b olds i blank h F c.loop-i.invariant.0 w.in-Some.kept w.in-Some.ensures.again),
+            omega (arith, w.push_reserved.ensures.len, c.loop-i.invariant.1),
+            w.push_reserved.ensures.capacity ∙ c.loop-i.invariant.2,
             room,
           )
-      | in-default w ↦
-          rw w.partners-is (renew_none d j rows group a b olds i blank h F c.loop-i.invariant.0 w.in-default.ensures.again, omega (arith, c.loop-i.invariant.1), c.loop-i.invariant.2, room)
+      | in_default w ↦
+          rw w.partners-is (renew_none d j rows group a b olds i blank h F c.loop-i.invariant.0 w.in_default.ensures.again, omega (arith, c.loop-i.invariant.1), c.loop-i.invariant.2, room)
     ]
 
-pub returns-in-Some-first-of : goal.returns-in-Some-first-of
-returns-in-Some-first-of g c =
+pub returns-in-Some-first_of : goal.returns-in-Some-first_of
+returns-in-Some-first_of g c =
     let rows = rows_of c.args.table.now in
     let d = reach_of g.S.Space c.args.space.now in
     let j = join_of g.S.Space g.S.Joining c.args.space.now in
@@ -68,17 +68,17 @@ returns-in-Some-first-of g c =
     let F = vec_items c.loop-i.partners in
     let Q : List Pair → Type 0 = λ xs. FirstsOf d j rows group (Lasting d j a b xs) F in
     let all : take c.loop-i.i olds ≡ olds = take_all c.loop-i.i olds (omega arith) in
-    let w = c.in-Some-first-of.found in
+    let w = c.in-Some-first_of.found in
     let P : List Pair → Type 0 = λ G. Firsts d j rows group G in
     record {
-      firsts = subst P (sym c.push-reserved-in-Some-first-of.ensures.items) (renewed_some d j rows group a b c.args.new olds c.requires.ready F (subst Q all c.loop-i.invariant.0) w c.in-Some-first-of.ensures.best);
-      few = omega (arith, c.loop-i.invariant.1, c.push-reserved-in-Some-first-of.ensures.len, c.push-reserved-in-Some-first-of.new.self.ok.0);
-      partners = c.push-reserved-in-Some-first-of.ensures.capacity ∙ c.loop-i.invariant.2 ∙ c.clear.ensures.capacity;
-      candidates = c.first-of.ensures.room ∙ c.loop-i.invariant.3;
+      firsts = subst P (sym c.push_reserved-in-Some-first_of.ensures.items) (renewed_some d j rows group a b c.args.new olds c.requires.ready F (subst Q all c.loop-i.invariant.0) w c.in-Some-first_of.ensures.best);
+      few = omega (arith, c.loop-i.invariant.1, c.push_reserved-in-Some-first_of.ensures.len, c.push_reserved-in-Some-first_of.new.self.ok.0);
+      partners = c.push_reserved-in-Some-first_of.ensures.capacity ∙ c.loop-i.invariant.2 ∙ c.clear.ensures.capacity;
+      candidates = c.first_of.ensures.room ∙ c.loop-i.invariant.3;
     }
 
-pub returns-in-default-first-of : goal.returns-in-default-first-of
-returns-in-default-first-of g c =
+pub returns-in_default-first_of : goal.returns-in_default-first_of
+returns-in_default-first_of g c =
     let rows = rows_of c.args.table.now in
     let d = reach_of g.S.Space c.args.space.now in
     let j = join_of g.S.Space g.S.Joining c.args.space.now in
@@ -90,8 +90,8 @@ returns-in-default-first-of g c =
     let Q : List Pair → Type 0 = λ xs. FirstsOf d j rows group (Lasting d j a b xs) F in
     let all : take c.loop-i.i olds ≡ olds = take_all c.loop-i.i olds (omega arith) in
     record {
-      firsts = renewed_none d j rows group a b c.args.new olds c.requires.ready F (subst Q all c.loop-i.invariant.0) c.in-default-first-of.ensures.best;
+      firsts = renewed_none d j rows group a b c.args.new olds c.requires.ready F (subst Q all c.loop-i.invariant.0) c.in_default-first_of.ensures.best;
       few = omega (arith, c.loop-i.invariant.1, c.loop-i.partners.ok.0);
       partners = c.loop-i.invariant.2 ∙ c.clear.ensures.capacity;
-      candidates = c.first-of.ensures.room ∙ c.loop-i.invariant.3;
+      candidates = c.first_of.ensures.room ∙ c.loop-i.invariant.3;
     }

@@ -10,7 +10,7 @@ use Rattle.joined.specs.Pairs.{FirstsOf}
 use Rattle.joined.proofs.Partnering.{firsts_none, firsts_push, firsts_same, held}
 use Rattle.joined.proofs.Keeping.{among_here, among_next}
 use Rattle.joined.proofs.partners.start.Goals as goal
-use Rattle.joined.proofs.partners.start.Goals.{in-Some, in-default}
+use Rattle.joined.proofs.partners.start.Goals.{in-Some, in_default}
 
 pub loop-i-init : goal.loop-i-init
 loop-i-init g c =
@@ -34,18 +34,18 @@ loop-i-preserved g c =
     let C : ℕ → Type 0 = λ b. Among b (take (i + 1) group) in
     let P : List Pair → Type 0 = λ F. FirstsOf d j rows group C F in
     let h = c.loop-i-test.true in
-    let room = c.first-of.ensures.room ∙ c.loop-i.invariant.3 in
-    elim c.match-first-of.branch [
+    let room = c.first_of.ensures.room ∙ c.loop-i.invariant.3 in
+    elim c.match-first_of.branch [
       | in-Some w ↦
           let b = w.in-Some.ensures.best in
           rw w.partners-is (
-            subst P (sym w.push-reserved.ensures.items) (firsts_push d j rows group B C x (λ y m p q. among_next group i 0 h y m) old c.loop-i.invariant.0 w.in-Some.found (held d j rows group x w.in-Some.found (among_here group i 0 h) b) b.0.second),
-            omega (arith, w.push-reserved.ensures.len, c.loop-i.invariant.1),
-            w.push-reserved.ensures.capacity ∙ c.loop-i.invariant.2,
+            subst P (sym w.push_reserved.ensures.items) (firsts_push d j rows group B C x (λ y m p q. among_next group i 0 h y m) old c.loop-i.invariant.0 w.in-Some.found (held d j rows group x w.in-Some.found (among_here group i 0 h) b) b.0.second),
+            omega (arith, w.push_reserved.ensures.len, c.loop-i.invariant.1),
+            w.push_reserved.ensures.capacity ∙ c.loop-i.invariant.2,
             room,
           )
-      | in-default w ↦
-          rw w.partners-is (firsts_same d j rows group B C x (λ y m p q. among_next group i 0 h y m) old c.loop-i.invariant.0 w.in-default.ensures.best, omega (arith, c.loop-i.invariant.1), c.loop-i.invariant.2, room)
+      | in_default w ↦
+          rw w.partners-is (firsts_same d j rows group B C x (λ y m p q. among_next group i 0 h y m) old c.loop-i.invariant.0 w.in_default.ensures.best, omega (arith, c.loop-i.invariant.1), c.loop-i.invariant.2, room)
     ]
 
 pub returns : goal.returns

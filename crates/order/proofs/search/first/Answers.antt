@@ -37,8 +37,8 @@ returns g c =
     let f : First g.C.Rank.before xs c.loop-candidate.best = subst P whole c.loop-candidate.invariant in
     record { first = f; staged = λ zs k. first_covered o k f; gathered = λ ls k. first_covered o (winners_cover o k) f }
 
-pub returns-in-default : goal.returns-in-default
-returns-in-default g c =
+pub returns-in_default : goal.returns-in_default
+returns-in_default g c =
     let e : c.args.candidates.now ≡ [] = nil_from_length c.args.candidates.now (search rules) in
     let o = g.met.C.Rank.order in
     record { first = e; staged = λ ys k. first_of_covered o None k e; gathered = λ ls k. first_of_covered o None (winners_cover o k) e }

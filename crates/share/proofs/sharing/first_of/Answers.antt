@@ -9,7 +9,7 @@ use Rattle.tree.proofs.Deciding.{decides_first}
 use Rattle.share.specs.Moves.{share_order}
 use Rattle.share.proofs.Weighing.{row_none, row_push, row_same}
 use Rattle.share.proofs.sharing.first_of.Goals as goal
-use Rattle.share.proofs.sharing.first_of.Goals.{in-Some, in-default}
+use Rattle.share.proofs.sharing.first_of.Goals.{in-Some, in_default}
 
 pub loop-b-init : goal.loop-b-init
 loop-b-init g c =
@@ -31,12 +31,12 @@ loop-b-preserved g c =
     elim c.match-weigh.branch [
       | in-Some w ↦
           rw w.moves-is (
-            subst P (sym w.push-reserved.ensures.items) (row_push rows d j a i old c.loop-b.invariant.0 w.in-Some.share w.in-Some.ensures),
-            omega (arith, w.push-reserved.ensures.len, c.loop-b.invariant.1),
-            w.push-reserved.ensures.capacity ∙ c.loop-b.invariant.2,
+            subst P (sym w.push_reserved.ensures.items) (row_push rows d j a i old c.loop-b.invariant.0 w.in-Some.share w.in-Some.ensures),
+            omega (arith, w.push_reserved.ensures.len, c.loop-b.invariant.1),
+            w.push_reserved.ensures.capacity ∙ c.loop-b.invariant.2,
           )
-      | in-default w ↦
-          rw w.moves-is (row_same rows d j a i old c.loop-b.invariant.0 w.in-default.ensures, omega (arith, c.loop-b.invariant.1), c.loop-b.invariant.2)
+      | in_default w ↦
+          rw w.moves-is (row_same rows d j a i old c.loop-b.invariant.0 w.in_default.ensures, omega (arith, c.loop-b.invariant.1), c.loop-b.invariant.2)
     ]
 
 pub returns : goal.returns
@@ -50,6 +50,6 @@ returns g c =
     let all : c.loop-b.b ≡ length rows = omega (arith, c.len-b-end.ensures) in
     let Q : ℕ → Type 0 = λ i. Decides share_before (ShareOf rows d j a i) (vec_items c.loop-b.moves) in
     record {
-      best = decides_first share_order (ShareOf rows d j a (length rows)) (vec_items c.loop-b.moves) c.first.result (subst Q all c.loop-b.invariant.0) (subst P c.as-slice.ensures.value c.first.ensures.first);
+      best = decides_first share_order (ShareOf rows d j a (length rows)) (vec_items c.loop-b.moves) c.first.result (subst Q all c.loop-b.invariant.0) (subst P c.as_slice.ensures.value c.first.ensures.first);
       room = c.loop-b.invariant.2 ∙ c.clear.ensures.capacity;
     }

@@ -3,10 +3,10 @@ use Rattle.std.proofs.lemmas.Int.{ints}
 use Rattle.space.specs.Grid.{within}
 use Rattle.space.proofs.air.square_sum.Goals as goal
 
-pub overflow-add-result : goal.overflow-add-result
-overflow-add-result c =
+pub overflow_add-result : goal.overflow_add-result
+overflow_add-result c =
     let a = within c.args.a c.requires.from in
     let b = within c.args.b c.requires.to in
-    let dx : c.abs-diff-dx.result ≤ 2000000 = omega (arith, ints, a.across, b.across) in
-    let dy : c.abs-diff-dy.result ≤ 2000000 = omega (arith, ints, a.along, b.along) in
+    let dx : c.abs_diff-dx.result ≤ 2000000 = omega (arith, ints, a.across, b.across) in
+    let dy : c.abs_diff-dy.result ≤ 2000000 = omega (arith, ints, a.along, b.along) in
     omega (arith, mul-le-mul dx dx, mul-le-mul dy dy)

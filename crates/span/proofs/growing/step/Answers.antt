@@ -7,9 +7,9 @@ use Rattle.span.specs.Spanning.{elsewhere, offered}
 use Rattle.span.proofs.Grows.{lengths_fair, step_grows, step_none}
 use Rattle.span.proofs.growing.step.Goals as goal
 
-pub returns-in-default : goal.returns-in-default
-returns-in-default g c =
-    let none = sym c.as-slice.ensures.value ∙ c.in-default.ensures.first in
+pub returns-in_default : goal.returns-in_default
+returns-in_default g c =
+    let none = sym c.as_slice.ensures.value ∙ c.in_default.ensures.first in
     record { room = refl; grown = λ gr more. absurd (step_none _ _ c.args.seed.now (vec_items c.args.links.now) none gr more) }
 
 pub returns : goal.returns
@@ -18,7 +18,7 @@ returns g c =
     let F = vec_items c.args.links.now in
     let w = c.in-Some.nearest in
     let P : List Link → Type 0 = λ L. First link_before L w in
-    let f = subst P c.as-slice.ensures.value c.in-Some.ensures.first in
+    let f = subst P c.as_slice.ensures.value c.in-Some.ensures.first in
     let links : vec_items c.offer.new.links ≡ map (offered d w.v) (filter (elsewhere w.v) F) = c.offer.ensures.items ∙ ap (map (offered d w.v)) c.forget.ensures.items in
     record {
       room = c.offer.ensures.room ∙ c.forget.ensures.room;

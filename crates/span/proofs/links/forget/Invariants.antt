@@ -1,4 +1,4 @@
-use Rattle.std.proofs.Common.{◌≡◌, vec_items, vec_len, vec_capacity}
+use Rattle.std.proofs.Common.{◌≡◌, vec_items, vec_capacity}
 use Rattle.std.proofs.lemmas.List.Filters.{FiltersInPlace}
 use Rattle.span.specs.Spanning.{elsewhere}
 use Rattle.span.proofs.links.forget.Given as goal

@@ -16,8 +16,8 @@ use Rattle.straight.proofs.laying.lay.Goals.{then-mark, else-mark}
 pub star-requires : goal.star-requires
 star-requires c = record { some = omega (arith, c.requires.falling.some); few = c.requires.few }
 
-pub push-reserved-requires : goal.push-reserved-requires
-push-reserved-requires c = omega (arith, c.loop-v.invariant.2, c.loop-v.invariant.3, c.clear.ensures.capacity, c.requires.room, c.requires.few)
+pub push_reserved-requires : goal.push_reserved-requires
+push_reserved-requires c = omega (arith, c.loop-v.invariant.2, c.loop-v.invariant.3, c.clear.ensures.capacity, c.requires.room, c.requires.few)
 
 pub loop-v-init : goal.loop-v-init
 loop-v-init c =
@@ -40,19 +40,19 @@ loop-v-preserved c =
     let l = c.loop-v.invariant.0 in
     elim c.if-mark.branch [
       | then-mark x ↦
-          let b : (S i).broken ≡ true = ap (λ (m : Mark). m.broken) (sym c.mark-of-mark.ensures) ∙ x.if-mark.true in
+          let b : (S i).broken ≡ true = ap (λ (m : Mark). m.broken) (sym c.mark_of-mark.ensures) ∙ x.if-mark.true in
           rw (x.broken-is, x.tree-is) (
             laying_break R S place n i (rows_of t) f one l less b,
-            x.push-reserved.ensures.items ∙ ap (λ xs. xs ++ i ∷ []) c.loop-v.invariant.1 ∙ sym (breakpoints_push S i b),
-            omega (arith, x.push-reserved.ensures.len, c.loop-v.invariant.2),
-            x.push-reserved.ensures.capacity ∙ c.loop-v.invariant.3,
+            x.push_reserved.ensures.items ∙ ap (λ xs. xs ++ i ∷ []) c.loop-v.invariant.1 ∙ sym (breakpoints_push S i b),
+            omega (arith, x.push_reserved.ensures.len, c.loop-v.invariant.2),
+            x.push_reserved.ensures.capacity ∙ c.loop-v.invariant.3,
           )
       | else-mark x ↦
-          let b : (S i).broken ≡ false = ap (λ (m : Mark). m.broken) (sym c.mark-of-mark.ensures) ∙ x.if-mark.false in
+          let b : (S i).broken ≡ false = ap (λ (m : Mark). m.broken) (sym c.mark_of-mark.ensures) ∙ x.if-mark.false in
           let C : Mark → Type 0 = λ m. Changed t i m.parent m.edge x.hang.result x.hang.new.self in
           let P : List Row → Type 0 = λ rows. Laying R S place n (i + 1) rows in
           let e : rows_of x.hang.new.self ≡ hang (rows_of t) i (S i).parent (S i).edge =
-          changed_hangs t i (S i).parent (S i).edge x.hang.result x.hang.new.self (subst C c.mark-of-mark.ensures x.hang.ensures) (can_hang R S place n i (rows_of t) f one l (tree_of t) i less nz b) (f.short i less nz b) in
+          changed_hangs t i (S i).parent (S i).edge x.hang.result x.hang.new.self (subst C c.mark_of-mark.ensures x.hang.ensures) (can_hang R S place n i (rows_of t) f one l (tree_of t) i less nz b) (f.short i less nz b) in
           rw (x.broken-is, x.tree-is) (
             subst P (sym e) (laying_hang R S place n i (rows_of t) f one l less b),
             c.loop-v.invariant.1 ∙ sym (breakpoints_same S i b),

@@ -18,7 +18,7 @@ loop-v-preserved g c =
     let x = c.reach.result in
     let h : i < length spots = omega arith in
     let n : length (rows_of t) ≡ i = measured_count (d (spot_at spots 0)) spots i (rows_of t) c.loop-v.invariant (omega arith) in
-    let value : x ≡ d (spot_at spots 0) (spot_at spots i) = measured_between d c.spot-of-driver.result c.spot-of.result (spot_at spots 0) (spot_at spots i) x c.reach.ensures.value c.spot-of-driver.ensures c.spot-of.ensures in
+    let value : x ≡ d (spot_at spots 0) (spot_at spots i) = measured_between d c.spot_of-driver.result c.spot_of.result (spot_at spots 0) (spot_at spots i) x c.reach.ensures.value c.spot_of-driver.ensures c.spot_of.ensures in
     let added = added_direct t x c.add.result c.add.new.self c.add.ensures (omega (arith, n, c.requires)) c.reach.ensures.bound in
     measured_more (d (spot_at spots 0)) spots i (rows_of t) c.loop-v.invariant (rows_of c.add.new.self) x h value added
 

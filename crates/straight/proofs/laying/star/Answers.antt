@@ -14,7 +14,7 @@ loop-v-init c =
     let w = walkRows c.args.walk.now in
     let place = spot_at c.args.spots.now in
     let P : List Row → Type 0 = λ xs. Laying (rules_of 0 0 0 w) (marks w) place 1 1 xs in
-    subst P (sym c.restart.ensures) (laying_alone (rules_of 0 0 0 w) (marks w) place c.spot-of.result c.spot-of.ensures)
+    subst P (sym c.restart.ensures) (laying_alone (rules_of 0 0 0 w) (marks w) place c.spot_of.result c.spot_of.ensures)
 
 pub loop-v-preserved : goal.loop-v-preserved
 loop-v-preserved c =
@@ -22,12 +22,12 @@ loop-v-preserved c =
     let place = spot_at c.args.spots.now in
     let i = c.loop-v.v in
     let t = c.loop-v.tree in
-    let z = c.spot-of-in-loop-v.result in
-    let d = c.direct-of.result in
+    let z = c.spot_of-in-loop-v.result in
+    let d = c.direct_of.result in
     let P : List Row → Type 0 = λ xs. Laying (rules_of 0 0 0 w) (marks w) place (i + 1) 1 xs in
     let e : rows_of c.add.new.self ≡ add (rows_of t) 0 z d =
-    added_rows t 0 z d c.add.result c.add.new.self c.add.ensures (omega (arith, c.loop-v.invariant.count, c.loop-v.auto.v)) c.direct-of.ensures.short (omega (arith, c.loop-v.invariant.count, c.requires.few)) in
-    subst P (sym e) (laying_add (rules_of 0 0 0 w) (marks w) place i (rows_of t) z d (omega (arith, c.loop-v.auto.v)) c.spot-of-in-loop-v.ensures c.direct-of.ensures.value c.loop-v.invariant)
+    added_rows t 0 z d c.add.result c.add.new.self c.add.ensures (omega (arith, c.loop-v.invariant.count, c.loop-v.auto.v)) c.direct_of.ensures.short (omega (arith, c.loop-v.invariant.count, c.requires.few)) in
+    subst P (sym e) (laying_add (rules_of 0 0 0 w) (marks w) place i (rows_of t) z d (omega (arith, c.loop-v.auto.v)) c.spot_of-in-loop-v.ensures c.direct_of.ensures.value c.loop-v.invariant)
 
 pub returns : goal.returns
 returns c =

@@ -8,7 +8,7 @@ use Rattle.tree.proofs.Deciding.{decides_first}
 use Rattle.tree.specs.Moves.{hook_order}
 use Rattle.tree.proofs.Weighing.{all_moves, all_none, all_push, all_same}
 use Rattle.tree.proofs.refining.best.Goals as goal
-use Rattle.tree.proofs.refining.best.Goals.{in-Some, in-default}
+use Rattle.tree.proofs.refining.best.Goals.{in-Some, in_default}
 
 pub loop-v-init : goal.loop-v-init
 loop-v-init g c =
@@ -24,17 +24,17 @@ loop-v-preserved g c =
     let i = c.loop-v.v in
     let old = vec_items c.loop-v.firsts in
     let P : List Hook → Type 0 = λ F. Decides hook_before (MoveBelow rows d (i + 1)) F in
-    let room = c.first-of.ensures.room ∙ c.loop-v.invariant.3 in
-    elim c.match-first-of.branch [
+    let room = c.first_of.ensures.room ∙ c.loop-v.invariant.3 in
+    elim c.match-first_of.branch [
       | in-Some w ↦
           rw w.firsts-is (
-            subst P (sym w.push-reserved.ensures.items) (all_push rows d i old c.loop-v.invariant.0 w.in-Some.hook w.in-Some.ensures.best),
-            omega (arith, w.push-reserved.ensures.len, c.loop-v.invariant.1),
-            w.push-reserved.ensures.capacity ∙ c.loop-v.invariant.2,
+            subst P (sym w.push_reserved.ensures.items) (all_push rows d i old c.loop-v.invariant.0 w.in-Some.hook w.in-Some.ensures.best),
+            omega (arith, w.push_reserved.ensures.len, c.loop-v.invariant.1),
+            w.push_reserved.ensures.capacity ∙ c.loop-v.invariant.2,
             room,
           )
-      | in-default w ↦
-          rw w.firsts-is (all_same rows d i old c.loop-v.invariant.0 w.in-default.ensures.best, omega (arith, c.loop-v.invariant.1), c.loop-v.invariant.2, room)
+      | in_default w ↦
+          rw w.firsts-is (all_same rows d i old c.loop-v.invariant.0 w.in_default.ensures.best, omega (arith, c.loop-v.invariant.1), c.loop-v.invariant.2, room)
     ]
 
 pub returns : goal.returns
@@ -46,7 +46,7 @@ returns g c =
     let P : List Hook → Type 0 = λ F. FirstOf hook_before F c.first.result in
     let all : length rows ≤ c.loop-v.v = omega (arith, c.len-v-end.ensures) in
     record {
-      best = decides_first hook_order (HookMove rows d) F c.first.result (all_moves rows d c.loop-v.v F all c.loop-v.invariant.0) (subst P c.as-slice.ensures.value c.first.ensures.first);
+      best = decides_first hook_order (HookMove rows d) F c.first.result (all_moves rows d c.loop-v.v F all c.loop-v.invariant.0) (subst P c.as_slice.ensures.value c.first.ensures.first);
       moves = c.loop-v.invariant.3;
       firsts = c.loop-v.invariant.2 ∙ c.clear.ensures.capacity;
     }

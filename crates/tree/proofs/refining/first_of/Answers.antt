@@ -8,7 +8,7 @@ use Rattle.tree.proofs.Deciding.{decides_first}
 use Rattle.tree.specs.Moves.{hook_order}
 use Rattle.tree.proofs.Weighing.{row_none, row_push, row_same}
 use Rattle.tree.proofs.refining.first_of.Goals as goal
-use Rattle.tree.proofs.refining.first_of.Goals.{in-Some, in-default}
+use Rattle.tree.proofs.refining.first_of.Goals.{in-Some, in_default}
 
 pub loop-u-init : goal.loop-u-init
 loop-u-init g c =
@@ -28,12 +28,12 @@ loop-u-preserved g c =
     elim c.match-weigh.branch [
       | in-Some w ↦
           rw w.moves-is (
-            subst P (sym w.push-reserved.ensures.items) (row_push rows d v i old c.loop-u.invariant.0 w.in-Some.hook w.in-Some.ensures),
-            omega (arith, w.push-reserved.ensures.len, c.loop-u.invariant.1),
-            w.push-reserved.ensures.capacity ∙ c.loop-u.invariant.2,
+            subst P (sym w.push_reserved.ensures.items) (row_push rows d v i old c.loop-u.invariant.0 w.in-Some.hook w.in-Some.ensures),
+            omega (arith, w.push_reserved.ensures.len, c.loop-u.invariant.1),
+            w.push_reserved.ensures.capacity ∙ c.loop-u.invariant.2,
           )
-      | in-default w ↦
-          rw w.moves-is (row_same rows d v i old c.loop-u.invariant.0 w.in-default.ensures, omega (arith, c.loop-u.invariant.1), c.loop-u.invariant.2)
+      | in_default w ↦
+          rw w.moves-is (row_same rows d v i old c.loop-u.invariant.0 w.in_default.ensures, omega (arith, c.loop-u.invariant.1), c.loop-u.invariant.2)
     ]
 
 pub returns : goal.returns
@@ -46,6 +46,6 @@ returns g c =
     let all : c.loop-u.u ≡ length rows = omega (arith, c.len-u-end.ensures) in
     let Q : ℕ → Type 0 = λ i. Decides hook_before (MoveOf rows d v i) (vec_items c.loop-u.moves) in
     record {
-      best = decides_first hook_order (MoveOf rows d v (length rows)) (vec_items c.loop-u.moves) c.first.result (subst Q all c.loop-u.invariant.0) (subst P c.as-slice.ensures.value c.first.ensures.first);
+      best = decides_first hook_order (MoveOf rows d v (length rows)) (vec_items c.loop-u.moves) c.first.result (subst Q all c.loop-u.invariant.0) (subst P c.as_slice.ensures.value c.first.ensures.first);
       room = c.loop-u.invariant.2 ∙ c.clear.ensures.capacity;
     }

@@ -8,8 +8,8 @@ use Rattle.tree.proofs.Tabled.{tree_of}
 use Rattle.tree.proofs.Weighing.{a_move, never_longer, never_shorter, never_under}
 use Rattle.tree.proofs.refining.weigh.Goals as goal
 
-pub overflow-add-paths : goal.overflow-add-paths
-overflow-add-paths g c =
+pub overflow_add-paths : goal.overflow_add-paths
+overflow_add-paths g c =
     let t = c.args.table.now in
     omega (arith, c.requires.paths.paths c.args.u c.requires.parent, path_bound (rows_of t) 100000000 t.lengths (length (rows_of t)) c.args.u, t.few, c.reach-new.ensures.bound)
 

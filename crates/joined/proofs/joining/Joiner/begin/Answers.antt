@@ -17,7 +17,7 @@ returns g c =
     let group = vec_items c.fill.new.group in
     let F = vec_items c.start.new.partners in
     let e = c.fill.ensures.items in
-    let v = c.as-slice.ensures.value in
+    let v = c.as_slice.ensures.value in
     let P : List ℕ → Type 0 = λ xs. Joinable rows xs in
     let Q : List ℕ → Type 0 = λ xs. Firsts d j rows xs F in
     record {

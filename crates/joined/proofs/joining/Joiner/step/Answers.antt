@@ -13,15 +13,15 @@ use Rattle.joined.proofs.Partnering.{best_farthest, best_near, best_none, firsts
 use Rattle.joined.proofs.Stepping.{ready_at, shorter_at, step_parts, stepped_at}
 use Rattle.joined.proofs.joining.Joiner.step.Goals as goal
 
-pub returns-in-default : goal.returns-in-default
-returns-in-default g c =
+pub returns-in_default : goal.returns-in_default
+returns-in_default g c =
     let rows = rows_of c.args.table.now in
     let d = reach_of g.S.Space c.args.space.now in
     let j = join_of g.S.Space g.S.Joining c.args.space.now in
     let group = vec_items c.args.self.now.group in
     let F = vec_items c.args.self.now.partners in
     let P : List Pair → Type 0 = λ xs. FirstOf pair_before xs None in
-    (refl, best_none d j rows group (firsts_best d j rows group F None c.requires.firsts (subst P c.as-slice.ensures.value c.in-default.ensures.first)))
+    (refl, best_none d j rows group (firsts_best d j rows group F None c.requires.firsts (subst P c.as_slice.ensures.value c.in_default.ensures.first)))
 
 pub returns-then-pair-eq0 : goal.returns-then-pair-eq0
 returns-then-pair-eq0 g c =
@@ -32,10 +32,10 @@ returns-then-pair-eq0 g c =
     let F = vec_items c.args.self.now.partners in
     let p = c.in-Some.pair in
     let P : List Pair → Type 0 = λ xs. FirstOf pair_before xs (Some p) in
-    (refl, best_near d j rows group p (firsts_best d j rows group F (Some p) c.requires.firsts (subst P c.as-slice.ensures.value c.in-Some.ensures.first)) c.if-pair-eq0.true)
+    (refl, best_near d j rows group p (firsts_best d j rows group F (Some p) c.requires.firsts (subst P c.as_slice.ensures.value c.in-Some.ensures.first)) c.if-pair-eq0.true)
 
-pub returns-in-default-part : goal.returns-in-default-part
-returns-in-default-part g c =
+pub returns-in_default-part : goal.returns-in_default-part
+returns-in_default-part g c =
     let t = c.args.table.now in
     let rows = rows_of t in
     let d = reach_of g.S.Space c.args.space.now in
@@ -44,11 +44,11 @@ returns-in-default-part g c =
     let F = vec_items c.args.self.now.partners in
     let p = c.in-Some.pair in
     let P : List Pair → Type 0 = λ xs. FirstOf pair_before xs (Some p) in
-    let best = firsts_best d j rows group F (Some p) c.requires.firsts (subst P c.as-slice.ensures.value c.in-Some.ensures.first) in
-    absurd (c.in-default-part.ensures.0 (step_parts d j rows (tree_of t) group F c.requires p.a p.b best.0.pair))
+    let best = firsts_best d j rows group F (Some p) c.requires.firsts (subst P c.as_slice.ensures.value c.in-Some.ensures.first) in
+    absurd (c.in_default-part.ensures.0 (step_parts d j rows (tree_of t) group F c.requires p.a p.b best.0.pair))
 
-pub push-reserved-requires : goal.push-reserved-requires
-push-reserved-requires g c =
+pub push_reserved-requires : goal.push_reserved-requires
+push_reserved-requires g c =
     let group = vec_items c.args.self.now.group in
     omega (
       arith,
@@ -71,16 +71,16 @@ renew-requires g c =
     let F = vec_items c.args.self.now.partners in
     let p = c.in-Some.pair in
     let P : List Pair → Type 0 = λ xs. FirstOf pair_before xs (Some p) in
-    let best = firsts_best d j rows group F (Some p) c.requires.firsts (subst P c.as-slice.ensures.value c.in-Some.ensures.first) in
+    let best = firsts_best d j rows group F (Some p) c.requires.firsts (subst P c.as_slice.ensures.value c.in-Some.ensures.first) in
     let parted = c.in-Some-part.ensures in
-    let left = c.as-slice-2.result.now in
+    let left = c.as_slice-2.result.now in
     let e : left ≡ filter (others p.a p.b) group ++ c.in-Some-part.new ∷ [] =
-    c.as-slice-2.ensures.value ∙ c.push-reserved.ensures.items ∙ ap (λ xs. xs ++ c.in-Some-part.new ∷ []) c.leave.ensures.items in
+    c.as_slice-2.ensures.value ∙ c.push_reserved.ensures.items ∙ ap (λ xs. xs ++ c.in-Some-part.new ∷ []) c.leave.ensures.items in
     record {
       few = omega (arith, shorter_at d j rows (tree_of t) group F c.requires p.a p.b best.0.pair (rows_of c.part.new.table) left c.in-Some-part.new parted.2 parted.1 e, c.requires.room);
       partners = omega (arith, ap vec_capacity c.swap.ensures.x-after, c.args.self.now.other);
       candidates = c.args.self.now.wide;
-      ready = ready_at d j rows (tree_of t) group F c.requires p.a p.b best.0.pair (rows_of c.part.new.table) left c.in-Some-part.new parted.2 parted.1 e c.as-slice-3.result.now (c.as-slice-3.ensures.value ∙ ap vec_items c.swap.ensures.y-after);
+      ready = ready_at d j rows (tree_of t) group F c.requires p.a p.b best.0.pair (rows_of c.part.new.table) left c.in-Some-part.new parted.2 parted.1 e c.as_slice-3.result.now (c.as_slice-3.ensures.value ∙ ap vec_items c.swap.ensures.y-after);
     }
 
 pub returns : goal.returns
@@ -93,16 +93,16 @@ returns g c =
     let F = vec_items c.args.self.now.partners in
     let p = c.in-Some.pair in
     let P : List Pair → Type 0 = λ xs. FirstOf pair_before xs (Some p) in
-    let best = firsts_best d j rows group F (Some p) c.requires.firsts (subst P c.as-slice.ensures.value c.in-Some.ensures.first) in
+    let best = firsts_best d j rows group F (Some p) c.requires.firsts (subst P c.as_slice.ensures.value c.in-Some.ensures.first) in
     let parted = c.in-Some-part.ensures in
-    let left = vec_items c.push-reserved.new.self in
+    let left = vec_items c.push_reserved.new.self in
     let G = vec_items c.renew.new.partners in
     let e : left ≡ filter (others p.a p.b) group ++ c.in-Some-part.new ∷ [] =
-    c.push-reserved.ensures.items ∙ ap (λ xs. xs ++ c.in-Some-part.new ∷ []) c.leave.ensures.items in
+    c.push_reserved.ensures.items ∙ ap (λ xs. xs ++ c.in-Some-part.new ∷ []) c.leave.ensures.items in
     let Q : List ℕ → Type 0 = λ xs. Firsts d j (rows_of c.part.new.table) xs G in
     let far : 0 < far_of d j rows p.a p.b = omega (arith, best.0.long, c.if-pair-eq0.false) in
     stepped_at d j rows (tree_of t) group F c.requires p.a p.b best.0.pair (rows_of c.part.new.table) left c.in-Some-part.new parted.2 parted.1 e G
-    (subst Q c.as-slice-2.ensures.value c.renew.ensures.firsts)
-    (omega (arith, c.renew.ensures.few, ap length (c.as-slice-3.ensures.value ∙ ap vec_items c.swap.ensures.y-after)))
+    (subst Q c.as_slice-2.ensures.value c.renew.ensures.firsts)
+    (omega (arith, c.renew.ensures.few, ap length (c.as_slice-3.ensures.value ∙ ap vec_items c.swap.ensures.y-after)))
     (best_farthest d j rows group p best)
     far

@@ -2,8 +2,8 @@ use Rattle.std.proofs.Common.{arith}
 use Rattle.net.proofs.Breaks.{joined_keeps}
 use Rattle.net.proofs.board.Board.join.Goals as goal
 
-pub invariant-of-self : goal.invariant-of-self
-invariant-of-self g c =
+pub invariant_of-self : goal.invariant_of-self
+invariant_of-self g c =
     let b = c.args.self.now in
     let k = joined_keeps g.S.Space g.S.Joining c.args.space.now b.tree c.args.members.now c.join.result c.join.new.table c.join.ensures in
     (b.room, (b.first, (b.few, (b.points, (b.nodes, ((λ u. omega (arith, b.tall u, k)), (b.two, tt)))))))

@@ -12,8 +12,8 @@ returns g c =
     let after : Bool → State = λ b. record { spots = n.spots; pins = n.pins; allowance = n.allowance; edges = n.edges; tree = standing b (rows_of c.share.new.table) } in
     record { moved = c.share.ensures; seen = ap after c.requires; same = λ e. same_board _ _ refl refl refl refl refl e }
 
-pub invariant-of-self : goal.invariant-of-self
-invariant-of-self g c =
+pub invariant_of-self : goal.invariant_of-self
+invariant_of-self g c =
     let b = c.args.self.now in
     let k = shared_keeps g.S.Space g.S.Joining c.args.space.now b.tree c.share.result c.share.new.table c.share.ensures in
     (b.room, (b.first, (b.few, (b.points, (b.nodes, ((λ u. omega (arith, b.tall u, k)), (b.two, tt)))))))

@@ -2,8 +2,8 @@ use Rattle.std.proofs.Common.{arith}
 use Rattle.net.proofs.Builds.{straight_count}
 use Rattle.net.proofs.board.Board.straight.Goals as goal
 
-pub invariant-of-self-2 : goal.invariant-of-self-2
-invariant-of-self-2 g c =
+pub invariant_of-self-2 : goal.invariant_of-self-2
+invariant_of-self-2 g c =
     let b = c.args.self.now in
     let n = straight_count _ _ _ _ _ _ _ c.in-Some.ensures.1 in
     (b.room, (b.first, (b.few, (b.points, (b.nodes, ((λ u. omega (arith, n, b.nodes)), ((λ u. c.requires.two), tt)))))))

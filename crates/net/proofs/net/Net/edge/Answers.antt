@@ -10,7 +10,7 @@ pub returns : goal.returns
 returns g c =
     let n = c.args.self.now in
     let s = n.space in
-    let m = seen c.add-edge.new.self in
+    let m = seen c.add_edge.new.self in
     let r : Result ℕ Fault = Ok c.reach-length.result in
     let a : EdgeAnswer (cut (wiring g.S.Space s)) (seen n.board) m c.args.a c.args.b r = search rules in
     record { always = a; unchanged = search rules; answer = whole_edge g.S.Space s (g.met.S.Space.metric s) (seen n.board) m c.args.a c.args.b r a tt; stays = refl }

@@ -10,7 +10,7 @@ pub returns : goal.returns
 returns g c =
     let n = c.args.self.now in
     let s = n.space in
-    let m = seen c.add-pin.new.self in
-    let r : Result ℕ Fault = Ok c.add-pin.result in
+    let m = seen c.add_pin.new.self in
+    let r : Result ℕ Fault = Ok c.add_pin.result in
     let a : PinAnswer (cut (wiring g.S.Space s)) (seen n.board) m c.args.spot r = search rules in
     record { always = a; unchanged = search rules; answer = whole_pin g.S.Space s (g.met.S.Space.metric s) (seen n.board) m c.args.spot r a tt; stays = refl }

@@ -10,7 +10,7 @@ pub returns : goal.returns
 returns g c =
     let n = c.args.self.now in
     let s = n.space in
-    let m = seen c.add-point.new.self in
-    let r : Result ℕ Fault = Ok c.add-point.result in
+    let m = seen c.add_point.new.self in
+    let r : Result ℕ Fault = Ok c.add_point.result in
     let a : SteinerAnswer (cut (wiring g.S.Space s)) (seen n.board) m c.args.spot r = search rules in
     record { always = a; unchanged = search rules; answer = whole_steiner g.S.Space s (g.met.S.Space.metric s) (seen n.board) m c.args.spot r a tt; stays = refl }

@@ -7,5 +7,5 @@ use Rattle.net.proofs.net.Net.unseed.Goals as goal
 pub returns : goal.returns
 returns g c =
     let n = c.args.self.now in
-    let e : seen c.drop-seed.new.self ≡ unseeded (seen n.board) = c.drop-seed.ensures in
-    record { always = e; whole = whole_unseed g.S.Space n.space (g.met.S.Space.metric n.space) (seen n.board) (seen c.drop-seed.new.self) e; stays = refl }
+    let e : seen c.drop_seed.new.self ≡ unseeded (seen n.board) = c.drop_seed.ensures in
+    record { always = e; whole = whole_unseed g.S.Space n.space (g.met.S.Space.metric n.space) (seen n.board) (seen c.drop_seed.new.self) e; stays = refl }

@@ -10,8 +10,8 @@ returns g c =
     let b = c.args.self.now.board in
     let rows = rows_of b.tree in
     let st = stands b c.if-not-built.ensures in
-    let w = c.worst-of.ensures in
+    let w = c.worst_of.ensures in
     record {
       always = (not_none (seen b).tree rows st, (rows, st, w));
-      answer = λ h. (not_none (seen b).tree rows st, (rows, st, worst_own g.S.Space s (seen b) (g.met.S.Space.metric s) h rows c.worst-of.result w));
+      answer = λ h. (not_none (seen b).tree rows st, (rows, st, worst_own g.S.Space s (seen b) (g.met.S.Space.metric s) h rows c.worst_of.result w));
     }

@@ -1,4 +1,4 @@
-use Rattle.std.proofs.Common.{◌≡◌, ℕ, ◌+◌, ◌<◌, List, [], ◌∷◌, ◌++◌, length, get_or, take, sym, ap, ◌∙◌, subst, arith}
+use Rattle.std.proofs.Common.{◌≡◌, ◌+◌, ◌<◌, List, [], ◌∷◌, ◌++◌, length, get_or, take, sym, ap, ◌∙◌, subst, arith}
 use Rattle.std.proofs.lemmas.List.{take_more, take_all}
 use Rattle.forest.specs.declared.Edge.{Edge}
 use Rattle.forest.specs.Growth.{LeastOf}
@@ -14,7 +14,7 @@ pub loop-edge-preserved : goal.loop-edge-preserved
 loop-edge-preserved c =
     let E = edges_of c.args.self.now in
     let D = c.deref-edge-items.result.now in
-    let i = c.loop-edge.edge_index in
+    let i = c.loop-edge.edge-index in
     let d = edge 0 0 0 in
     let q : D ≡ E = c.deref-edge-items.ensures.value in
     let l : i < length E = omega (arith, ap length q, c.loop-edge-test.true) in
@@ -26,7 +26,7 @@ pub returns : goal.returns
 returns c =
     let E = edges_of c.args.self.now in
     let q = ap length c.deref-edge-items.ensures.value in
-    let e : take c.loop-edge.edge_index E ≡ E = take_all c.loop-edge.edge_index E (omega (arith, q)) in
+    let e : take c.loop-edge.edge-index E ≡ E = take_all c.loop-edge.edge-index E (omega (arith, q)) in
     let P : List Edge → Type 0 = λ X. LeastOf X c.args.v c.args.from c.args.next c.loop-edge.found in
     let s = c.args.self.now in
     let found : LeastOf E c.args.v c.args.from c.args.next c.loop-edge.found = subst P e c.loop-edge.invariant in

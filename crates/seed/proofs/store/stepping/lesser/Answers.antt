@@ -1,11 +1,10 @@
-use Rattle.std.proofs.Common.{◌≡◌, ℕ, ◌<◌, ◌≤◌, ◌⊎◌, ◌∙◌, ⊎_elim, arith}
-use Rattle.forest.specs.Edges.{Between}
+use Rattle.std.proofs.Common.{◌≡◌, ℕ, ◌<◌, ◌≤◌, ◌∙◌, ⊎_elim, arith}
 use Rattle.forest.proofs.Nearest.{least_of_stays, least_of_keeps, least_of_lower, least_of_new}
 use Rattle.seed.proofs.store.stepping.lesser.Goals as goal
 
-pub returns-in-default : goal.returns-in-default
-returns-in-default c E h =
-    least_of_stays E c.args.edge.now c.args.v c.args.from c.args.next c.args.found (λ x b le ne. c.in-default.ensures x b) h
+pub returns-in_default : goal.returns-in_default
+returns-in_default c E h =
+    least_of_stays E c.args.edge.now c.args.v c.args.from c.args.next c.args.found (λ x b le ne. c.in_default.ensures x b) h
 
 past : (x u next : ℕ) → x ≡ u → u < next → next ≤ x → ⊥
 past x u next q l le = omega arith

@@ -5,10 +5,10 @@ use Rattle.tree.proofs.Tabled.{tree_of}
 use Rattle.share.proofs.Measures.{best_measured, gained_measured}
 use Rattle.share.proofs.sharing.Sharer.share.Goals as goal
 
-pub returns-in-default : goal.returns-in-default
-returns-in-default g c =
+pub returns-in_default : goal.returns-in_default
+returns-in_default g c =
     let s = c.args.space.now in
-    let b = c.in-default.ensures.best in
+    let b = c.in_default.ensures.best in
     (b, λ p. best_measured g.S.Space g.S.Joining s (rows_of c.args.table.now) (g.met.S.Space.metric s) (g.met.S.Joining.meets s) p None b, refl)
 
 pub returns-else-place : goal.returns-else-place

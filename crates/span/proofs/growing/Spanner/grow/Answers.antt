@@ -1,8 +1,7 @@
-use Rattle.std.proofs.Common.{◌≡◌, ◌+◌, ◌-◌, ◌<◌, ◌≤◌, List, length, vec_items, sym, ap, ◌∙◌, subst, arith, rules}
+use Rattle.std.proofs.Common.{◌≡◌, ◌+◌, ◌-◌, ◌<◌, List, length, vec_items, sym, ap, ◌∙◌, subst, arith}
 use Rattle.std.proofs.lemmas.Bool.{eqb-false}
 use Rattle.order.specs.declared.link.Link.{Link}
-use Rattle.seed.specs.Seeds.{edges_of, nodes_of}
-use Rattle.seed.proofs.Answered.{restart_done}
+use Rattle.seed.specs.Seeds.{edges_of}
 use Rattle.span.specs.Grown.{Growing}
 use Rattle.span.specs.Lengths.{lengths}
 use Rattle.span.proofs.Grows.{spans, start_grows}
@@ -13,8 +12,8 @@ loop-init g c =
     let pins = c.args.pins.now in
     let d = lengths g.S.Space c.args.space.now pins in
     let t = c.restart.new.self in
-    let new = c.in-default.ensures in
-    let some : 0 < length pins = omega (arith, eqb-false _ _ (sym c.is-empty.ensures ∙ c.if-is-empty.false)) in
+    let new = c.in_default.ensures in
+    let some : 0 < length pins = omega (arith, eqb-false _ _ (sym c.is_empty.ensures ∙ c.if-is_empty.false)) in
     let P : List Link → Type 0 = λ F. Growing (length pins) d t F in
     (subst P (sym c.start.ensures.items) (start_grows (length pins) d t (length pins - 1) (omega arith) new.2 new.1), omega (arith, ap length new.1))
 
@@ -27,6 +26,6 @@ loop-preserved g c =
 pub returns : goal.returns
 returns g c =
     let pins = c.args.pins.now in
-    let some : 0 < length pins = omega (arith, eqb-false _ _ (sym c.is-empty.ensures ∙ c.if-is-empty.false)) in
+    let some : 0 < length pins = omega (arith, eqb-false _ _ (sym c.is_empty.ensures ∙ c.if-is_empty.false)) in
     let all : length (edges_of c.loop.seed) + 1 ≡ length pins = omega (arith, c.loop.invariant.1, c.loop.auto.counter-end some) in
-    spans g.S.Space c.args.space.now (g.met.S.Space.metric c.args.space.now) pins c.loop.seed (vec_items c.loop.self.links) c.wire.result some c.in-default.ensures.0 c.loop.invariant.0 all c.wire.ensures
+    spans g.S.Space c.args.space.now (g.met.S.Space.metric c.args.space.now) pins c.loop.seed (vec_items c.loop.self.links) c.wire.result some c.in_default.ensures.0 c.loop.invariant.0 all c.wire.ensures

@@ -35,8 +35,8 @@ lay-requires g c =
       falling = whole_falls d spots a.p a.q c.args.pins n E old new c.walk.result (omega (arith, a.within.1)) seed.sound tree size c.measure.ensures c.walk.ensures.taken c.walk.ensures.walked c.walk.ensures.kept;
     }
 
-pub invariant-of-self : goal.invariant-of-self
-invariant-of-self g c = (omega (arith, c.lay.ensures.room, c.args.self.now.room), tt)
+pub invariant_of-self : goal.invariant_of-self
+invariant_of-self g c = (omega (arith, c.lay.ensures.room, c.args.self.now.room), tt)
 
 pub returns : goal.returns
 returns g c =

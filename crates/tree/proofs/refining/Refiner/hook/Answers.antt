@@ -7,10 +7,10 @@ use Rattle.tree.proofs.Measured.{none_measured, saved_again, saved_measured}
 use Rattle.tree.proofs.Tabled.{tree_of}
 use Rattle.tree.proofs.refining.Refiner.hook.Goals as goal
 
-pub returns-in-default : goal.returns-in-default
-returns-in-default g c =
+pub returns-in_default : goal.returns-in_default
+returns-in_default g c =
     let s = c.args.space.now in
-    let b = c.in-default.ensures in
+    let b = c.in_default.ensures in
     record { answer = (b, none_measured g.S.Space s (rows_of c.args.table.now) (g.met.S.Space.metric s) b, refl); again = λ p. p }
 
 pub returns : goal.returns

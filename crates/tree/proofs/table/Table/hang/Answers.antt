@@ -8,15 +8,15 @@ use Rattle.tree.specs.Tables.{rows_of}
 use Rattle.tree.proofs.Tabled.{tree_of}
 use Rattle.tree.proofs.table.Table.hang.Goals as goal
 
-pub invariant-of-self : goal.invariant-of-self
-invariant-of-self c =
+pub invariant_of-self : goal.invariant_of-self
+invariant_of-self c =
     let t = c.args.self.now in
     let v = c.args.v in
     let u = c.args.u in
     let l = c.args.length in
-    let row = c.index-mut-row.result.now in
+    let row = c.index_mut-row.result.now in
     let h : v < length (rows_of t) = omega (arith, t.rows.ok.0) in
-    let read : row ≡ row_of (rows_of t) v = get_or_read_under (rows_of t) v t.rows.len row blank c.index-mut-row.ensures.value (omega arith) t.rows.ok.0 in
+    let read : row ≡ row_of (rows_of t) v = get_or_read_under (rows_of t) v t.rows.len row blank c.index_mut-row.ensures.value (omega arith) t.rows.ok.0 in
     let after : List Row = set (rows_of t) v (record { parent = u; spot = row.spot; length = l }) in
     let e : after ≡ hang (rows_of t) v u l = ap (λ (r : Row). set (rows_of t) v (record { parent = u; spot = r.spot; length = l })) read in
     let g : Hangs (rows_of t) v u = record { row = h; moves = λ z. c.if-v-eq0.false z; parent = omega (arith, t.rows.ok.0); above = sym c.if-under.ensures } in

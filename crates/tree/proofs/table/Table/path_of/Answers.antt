@@ -6,8 +6,8 @@ use Rattle.tree.specs.Tables.{rows_of}
 use Rattle.tree.proofs.Tabled.{tree_of}
 use Rattle.tree.proofs.table.Table.path_of.Goals as goal
 
-pub overflow-add-path : goal.overflow-add-path
-overflow-add-path c =
+pub overflow_add-path : goal.overflow_add-path
+overflow_add-path c =
     let t = c.args.self.now in
     let n = length (rows_of t) in
     let h : c.loop-step.step < n = omega (arith, t.rows.ok.0) in

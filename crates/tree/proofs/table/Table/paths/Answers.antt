@@ -10,11 +10,11 @@ loop-k-preserved c =
     let i = c.loop-k.k in
     let old = vec_items c.loop-k.out in
     let p = c.path_of_lem.result in
-    let e : vec_items c.push-reserved.new.self ≡ old ++ p ∷ [] = c.push-reserved.ensures.items in
+    let e : vec_items c.push_reserved.new.self ≡ old ++ p ∷ [] = c.push_reserved.ensures.items in
     let n : length old ≡ i = omega (arith, c.loop-k.out.ok.0, c.loop-k.invariant.0) in (
-      omega (arith, c.push-reserved.ensures.len, c.loop-k.invariant.0),
-      c.push-reserved.ensures.capacity ∙ c.loop-k.invariant.1,
-      below_more (λ j. get_or (vec_items c.push-reserved.new.self) j 0 ≡ path_length rows j) i
+      omega (arith, c.push_reserved.ensures.len, c.loop-k.invariant.0),
+      c.push_reserved.ensures.capacity ∙ c.loop-k.invariant.1,
+      below_more (λ j. get_or (vec_items c.push_reserved.new.self) j 0 ≡ path_length rows j) i
           (λ j h. ap (λ xs. get_or xs j 0) e ∙ get_or_append_left old (p ∷ []) 0 j (omega arith) ∙ c.loop-k.invariant.2 j h)
           (ap (λ xs. get_or xs i 0) e ∙ get_or_push old p 0 i n ∙ c.path_of_lem.ensures),
     )

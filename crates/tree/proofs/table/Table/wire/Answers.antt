@@ -6,8 +6,8 @@ use Rattle.tree_laws.specs.Trees.{blank, wire_of}
 use Rattle.tree.specs.Tables.{rows_of}
 use Rattle.tree.proofs.table.Table.wire.Goals as goal
 
-pub overflow-add-wire : goal.overflow-add-wire
-overflow-add-wire c = omega (arith, c.loop-k.invariant.1, c.at-wire.ensures.short, c.args.self.now.few, c.args.self.now.rows.ok.0)
+pub overflow_add-wire : goal.overflow_add-wire
+overflow_add-wire c = omega (arith, c.loop-k.invariant.1, c.at-wire.ensures.short, c.args.self.now.few, c.args.self.now.rows.ok.0)
 
 pub loop-k-preserved : goal.loop-k-preserved
 loop-k-preserved c =

@@ -1,4 +1,4 @@
-use Rattle.std.proofs.Common.{◌≡◌, ◌+◌, ◌<◌, length, get_or, set, sym, refl, ap, ◌∙◌, arith, length-set}
+use Rattle.std.proofs.Common.{◌≡◌, ◌+◌, ◌<◌, length, set, sym, ap, ◌∙◌, arith, length-set}
 use Rattle.std.proofs.lemmas.List.{get_or_read}
 use Rattle.walk.specs.declared.row.Row.{Row}
 use Rattle.walk.specs.Marks.{idle}
@@ -17,13 +17,13 @@ returns c =
     let rows = c.args.self.now.rows.items in
     let rows1 = c.relax.new.self.rows.items in
     let rows2 = c.enter.new.self.rows.items in
-    let a : Row = c.index-mut.result.now in
-    let b : Row = c.index-mut-row.result.now in
+    let a : Row = c.index_mut.result.now in
+    let b : Row = c.index_mut-row.result.now in
     let len : length rows2 ≡ length rows = c.enter.ensures.places.count ∙ c.relax.ensures.places.count in
     let hv : c.args.v < length rows2 = omega (arith, c.requires.near) in
     let hu : c.args.u < length (set rows2 c.args.v (stepped a (c.args.u + 1))) =
     omega (arith, c.requires.far, length-set rows2 c.args.v (stepped a (c.args.u + 1))) in
-    let at = get_or_read rows2 c.args.v a hv c.index-mut.ensures.value idle in
-    let to = get_or_read (set rows2 c.args.v (stepped a (c.args.u + 1))) c.args.u b hu c.index-mut-row.ensures.value idle in
+    let at = get_or_read rows2 c.args.v a hv c.index_mut.ensures.value idle in
+    let to = get_or_read (set rows2 c.args.v (stepped a (c.args.u + 1))) c.args.u b hu c.index_mut-row.ensures.value idle in
     gone_rows c.args.allowance.p c.args.allowance.q c.args.pins c.args.v c.args.u c.args.l rows rows1 rows2 a b c.requires.near c.requires.far
     c.requires.apart c.relax.ensures.after c.relax.ensures.places c.enter.ensures.after c.enter.ensures.places at to

@@ -1,4 +1,4 @@
-use Rattle.std.proofs.Common.{◌≡◌, ℕ, ◌+◌, get_or, Some, sym, refl, ap, ◌∙◌, arith}
+use Rattle.std.proofs.Common.{◌+◌, sym, ap, ◌∙◌, arith}
 use Rattle.std.proofs.lemmas.List.{get_or_read}
 use Rattle.walk_laws.specs.Walk.{offered}
 use Rattle.walk.specs.declared.row.Row.{Row}
@@ -6,18 +6,18 @@ use Rattle.walk.specs.Marks.{idle, seen}
 use Rattle.walk.proofs.Marked.{relax_absent, relax_present, places_same, places_set}
 use Rattle.walk.proofs.table.Table.relax.Goals as goal
 
-pub returns-in-default : goal.returns-in-default
-returns-in-default c =
+pub returns-in_default : goal.returns-in_default
+returns-in_default c =
     let rows = c.args.self.now.rows.items in
     let at = get_or_read rows c.args.u c.index.result.now c.requires.near c.index.ensures idle in
     record {
       after =
-          relax_absent rows c.args.u c.args.v c.args.l (sym (ap (λ r. r.mark.est) at) ∙ c.in-default.is);
+          relax_absent rows c.args.u c.args.v c.args.l (sym (ap (λ r. r.mark.est) at) ∙ c.in_default.is);
       places = places_same rows;
     }
 
-pub overflow-add-sum : goal.overflow-add-sum
-overflow-add-sum c =
+pub overflow_add-sum : goal.overflow_add-sum
+overflow_add-sum c =
     let at = get_or_read c.args.self.now.rows.items c.args.u c.index.result.now c.requires.near c.index.ensures idle in
     let fits = c.requires.room c.in-Some.e (sym (ap (λ r. r.mark.est) at) ∙ c.in-Some.is) in
     omega arith
@@ -25,9 +25,9 @@ overflow-add-sum c =
 pub returns : goal.returns
 returns c =
     let rows = c.args.self.now.rows.items in
-    let old : Row = c.index-mut-row.result.now in
+    let old : Row = c.index_mut-row.result.now in
     let at = get_or_read rows c.args.u c.index.result.now c.requires.near c.index.ensures idle in
-    let to = get_or_read rows c.args.v c.index-mut-row.result.now c.requires.far c.index-mut-row.ensures.value idle in
+    let to = get_or_read rows c.args.v c.index_mut-row.result.now c.requires.far c.index_mut-row.ensures.value idle in
     record {
       after =
           relax_present rows c.args.u c.args.v c.args.l c.in-Some.e

@@ -1,4 +1,4 @@
-use Rattle.std.proofs.Common.{◌≡◌, ◌+◌, ◌<◌, List, length, sym, subst, arith}
+use Rattle.std.proofs.Common.{◌+◌, ◌<◌, List, length, sym, subst, arith}
 use Rattle.walk.specs.declared.row.Row.{Row}
 use Rattle.walk.specs.Tables.{rows_of}
 use Rattle.walk.proofs.Fresh.{Renewing, renewing_none, renewing_more}

@@ -1,12 +1,11 @@
-use Rattle.std.proofs.Common.{◌≡◌, ℕ, ◌+◌, ◌*◌, ◌<◌, ◌≤◌, List, length, get_or, vec_items, sym, refl, ap, ◌∙◌, subst, subst₂, arith}
+use Rattle.std.proofs.Common.{◌≡◌, ℕ, ◌+◌, ◌*◌, ◌<◌, List, length, vec_items, sym, ap, ◌∙◌, subst₂, arith}
 use Rattle.std.proofs.lemmas.List.{get_or_read}
 use Rattle.forest.specs.declared.Edge.{Edge}
-use Rattle.forest.specs.Growth.{Least, Nothing}
 use Rattle.forest.specs.Rooted.{size_of}
 use Rattle.seed.specs.Seeds.{nodes_of, edges_of}
 use Rattle.walk.specs.declared.row.Row.{Row}
 use Rattle.walk.specs.declared.table.Table.{Table}
-use Rattle.walk.specs.Marks.{idle, marks, froms, gaps, nexts, Places}
+use Rattle.walk.specs.Marks.{idle, marks, froms, gaps}
 use Rattle.walk_laws.specs.Walk as laws
 use Rattle.walk.proofs.Loop.{Looping, Down, loop_start, loop_needs, loop_rise, loop_down, loop_up, loop_end, loop_steps, at_below, least_read, nothing_read}
 use Rattle.walk.proofs.table.Table.take_steps.Goals as goal
