@@ -1,8 +1,8 @@
 -- How the best of several candidates is found. Assumes nothing.
-use Rattle.std.proofs.Common.{◌≡◌, Bool, true, false, ◌⊎◌, List, [], ◌∷◌, ◌++◌, Some, None, Option, sym, subst, ⊎_elim}
+use Rattle.std.proofs.Common.{Bool, ◌⊎◌, List, [], ◌∷◌, ◌++◌, Some, None, Option, sym, subst, ⊎_elim}
 use Rattle.order.specs.Orders.{Order}
-use Rattle.order.specs.Firsts.{Among, First, FirstOf}
-use Rattle.order.specs.Firsts.Among.{here, there}
+use Rattle.order.specs.Firsts.{Among, FirstOf}
+use Rattle.order.specs.Firsts.Among.{here}
 use Rattle.order.proofs.Finding.{among_none, among_either, among_left, among_right, among_one, not_before}
 use Rattle.tree.specs.Bests.{BestOf, Decides}
 

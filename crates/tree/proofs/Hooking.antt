@@ -1,7 +1,7 @@
 -- What the best hook move does to the table. Assumes nothing.
-use Rattle.std.proofs.Common.{◌≡◌, ℕ, ◌+◌, ◌<◌, ◌≤◌, Bool, true, false, List, length, Some, None, sym, refl, ap, ◌∙◌, subst, arith}
+use Rattle.std.proofs.Common.{◌≡◌, ℕ, ◌<◌, ◌≤◌, Bool, true, false, List, length, Some, sym, refl, ap, subst, arith}
 use Rattle.tree_laws.specs.declared.Row.{Row}
-use Rattle.tree_laws.specs.Trees.{Tree, Hangs, Hung, hang, length_of, path_length, wire_of}
+use Rattle.tree_laws.specs.Trees.{Tree, Hangs, hang, path_length, wire_of}
 use Rattle.tree_laws.proofs.Ways.{hung}
 use Rattle.tree_laws.proofs.Hanging.{hang_never_grows, hang_tree, hang_wire}
 use Rattle.tree.specs.declared.hook.Hook.{Hook}

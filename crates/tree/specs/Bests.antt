@@ -1,5 +1,5 @@
 -- The best of the candidates that have a property, and which candidates decide it. `lt x y` says that x comes before y. Assumes nothing.
-use Rattle.std.specs.Prelude.{◌≡◌, Bool, true, false, List, Some, None, Option}
+use Rattle.std.specs.Prelude.{◌≡◌, Bool, false, List, Some, None, Option}
 use Rattle.order.specs.Firsts.{Among}
 
 -- The best of the candidates that have P: nothing where there is none, else one that no other comes before.

@@ -1,5 +1,5 @@
 -- The hook move: what it is, what it saves, and which is the best. `d u v` is how far apart the rows u and v are. Assumes nothing.
-use Rattle.std.specs.Prelude.{◌≡◌, ℕ, ◌+◌, ◌<◌, ◌≤◌, min, Bool, true, false, ◌&&◌, List, length, Some, None, Option, ◌≢◌, nat_lt}
+use Rattle.std.specs.Prelude.{◌≡◌, ℕ, ◌+◌, ◌<◌, ◌≤◌, min, Bool, true, ◌&&◌, List, length, Some, None, Option, ◌≢◌, nat_lt}
 use Rattle.std.specs.Option.{unwrap_or}
 use Rattle.order.specs.Orders.{then_by}
 use Rattle.space.specs.Laws.{answered, limit}

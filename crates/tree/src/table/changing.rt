@@ -25,10 +25,11 @@ impl Table {
         ensures { rows_of self.new ≡ alone driver }
     {
         self.rows.clear();
+        let length = 0;
         self.rows.push_reserved(Row {
             parent: 0,
             spot: driver,
-            length: 0,
+            length,
         });
     }
 

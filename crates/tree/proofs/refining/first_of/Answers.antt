@@ -1,4 +1,4 @@
-use Rattle.std.proofs.Common.{◌≡◌, ℕ, ◌+◌, ◌<◌, ◌≤◌, List, [], ◌∷◌, ◌++◌, length, vec_items, sym, refl, ap, ◌∙◌, subst, arith}
+use Rattle.std.proofs.Common.{◌≡◌, ℕ, ◌+◌, List, length, vec_items, sym, refl, ◌∙◌, subst, arith}
 use Rattle.order.specs.Firsts.{FirstOf}
 use Rattle.tree.specs.declared.hook.Hook.{Hook}
 use Rattle.tree.specs.Bests.{Decides}

@@ -1,11 +1,11 @@
-use Rattle.std.proofs.Common.{◌≡◌, ℕ, ◌+◌, ◌-◌, ◌<◌, ◌≤◌, length, sym, ap, ◌∙◌, subst, arith}
+use Rattle.std.proofs.Common.{◌≡◌, ◌-◌, length, sym, ap, ◌∙◌, arith}
 use Rattle.tree_laws.specs.declared.Row.{Row}
-use Rattle.tree_laws.specs.Trees.{length_of, path_length, spot_of}
+use Rattle.tree_laws.specs.Trees.{spot_of}
 use Rattle.tree_laws.proofs.Steps.{path_bound}
 use Rattle.tree.specs.Hooks.{apart, reach_of}
 use Rattle.tree.specs.Tables.{rows_of}
 use Rattle.tree.proofs.Tabled.{tree_of}
-use Rattle.tree.proofs.Weighing.{a_move, never_longer, never_shorter, never_under}
+use Rattle.tree.proofs.Weighing.{a_move}
 use Rattle.tree.proofs.refining.weigh.Goals as goal
 
 pub overflow_add-paths : goal.overflow_add-paths

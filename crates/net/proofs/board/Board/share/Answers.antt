@@ -16,4 +16,4 @@ pub invariant_of-self : goal.invariant_of-self
 invariant_of-self g c =
     let b = c.args.self.now in
     let k = shared_keeps g.S.Space g.S.Joining c.args.space.now b.tree c.share.result c.share.new.table c.share.ensures in
-    (b.room, (b.first, (b.few, (b.points, (b.nodes, ((λ u. omega (arith, b.tall u, k)), (b.two, tt)))))))
+    record { room = b.room; first = b.first; few = b.few; points = b.points; nodes = b.nodes; tall = λ u. omega (arith, b.tall u, k); two = b.two }

@@ -6,4 +6,4 @@ pub invariant_of-self-2 : goal.invariant_of-self-2
 invariant_of-self-2 g c =
     let b = c.args.self.now in
     let n = straight_count _ _ _ _ _ _ _ c.in-Some.ensures.1 in
-    (b.room, (b.first, (b.few, (b.points, (b.nodes, ((λ u. omega (arith, n, b.nodes)), ((λ u. c.requires.two), tt)))))))
+    record { room = b.room; first = b.first; few = b.few; points = b.points; nodes = b.nodes; tall = λ u. omega (arith, n, b.nodes); two = λ u. c.requires.two }

@@ -36,7 +36,7 @@ lay-requires g c =
     }
 
 pub invariant_of-self : goal.invariant_of-self
-invariant_of-self g c = (omega (arith, c.lay.ensures.room, c.args.self.now.room), tt)
+invariant_of-self g c = omega (arith, c.lay.ensures.room, c.args.self.now.room)
 
 pub returns : goal.returns
 returns g c =

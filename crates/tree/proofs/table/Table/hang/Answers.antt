@@ -1,8 +1,7 @@
-use Rattle.std.proofs.Common.{◌≡◌, ℕ, ◌<◌, ◌≤◌, List, length, set, sym, ap, ◌∙◌, subst, arith}
+use Rattle.std.proofs.Common.{◌≡◌, ℕ, ◌<◌, ◌≤◌, List, length, set, sym, ap, subst, arith}
 use Rattle.std.proofs.lemmas.List.{get_or_read_under}
-use Rattle.space.specs.declared.spot.Spot.{Spot}
 use Rattle.tree_laws.specs.declared.Row.{Row}
-use Rattle.tree_laws.specs.Trees.{Tree, Hangs, blank, hang, length_of, row_of, spot_of}
+use Rattle.tree_laws.specs.Trees.{Tree, Hangs, blank, hang, length_of, row_of}
 use Rattle.tree_laws.proofs.Hanging.{hang_length, hang_lengths, hang_tree}
 use Rattle.tree.specs.Tables.{rows_of}
 use Rattle.tree.proofs.Tabled.{tree_of}
@@ -23,4 +22,13 @@ invariant_of-self c =
     let P : List Row → Type 0 = λ xs. (k : ℕ) → length_of xs k ≤ 100000000 in
     let short = subst P (sym e) (hang_lengths (rows_of t) v u l 100000000 h (omega arith) t.lengths) in
     let whole = subst Tree (sym e) (hang_tree (tree_of t) l g) in
-    (t.room, (omega (arith, ap length e, hang_length (rows_of t) v u l, t.few), (short, (whole.some, (whole.driver, (whole.still, (whole.parents, (whole.reaches, tt))))))))
+    record {
+      room = t.room;
+      few = omega (arith, ap length e, hang_length (rows_of t) v u l, t.few);
+      lengths = short;
+      some = whole.some;
+      driver = whole.driver;
+      still = whole.still;
+      parents = whole.parents;
+      reaches = whole.reaches;
+    }

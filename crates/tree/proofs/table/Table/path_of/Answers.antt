@@ -1,6 +1,6 @@
-use Rattle.std.proofs.Common.{◌≡◌, ◌+◌, ◌-◌, ◌<◌, ◌≤◌, length, sym, ap, ◌∙◌, arith}
+use Rattle.std.proofs.Common.{◌+◌, ◌-◌, ◌<◌, ◌≤◌, length, ap, arith}
 use Rattle.tree_laws.specs.declared.Row.{Row}
-use Rattle.tree_laws.specs.Trees.{length_of, path_in, path_length, up}
+use Rattle.tree_laws.specs.Trees.{path_in, path_length}
 use Rattle.tree_laws.proofs.Steps.{path_bound, path_last, path_turn}
 use Rattle.tree.specs.Tables.{rows_of}
 use Rattle.tree.proofs.Tabled.{tree_of}

@@ -1,4 +1,4 @@
-use Rattle.std.proofs.Common.{◌≡◌, ◌+◌, ◌-◌, length}
+use Rattle.std.proofs.Common.{◌≡◌, ◌-◌, length}
 use Rattle.tree_laws.specs.Trees.{under, under_in}
 use Rattle.tree.specs.Tables.{rows_of}
 use Rattle.tree.proofs.table.Table.under.Given as goal
