@@ -1,19 +1,19 @@
 -- The straight tree keeps what the walk guarantees. Assumes nothing.
-use Rattle.std.proofs.Common.{◌≡◌, ℕ, zero, suc, ◌+◌, ◌*◌, ◌<◌, ◌≤◌, Bool, true, false, cond, ◌||◌, eqb, ◌⊎◌, List, [], ◌∷◌, ◌++◌, length, get_or, Some, sym, refl, ap, ◌∙◌, subst, inl, inr, ⊎_elim, mul_assoc, mul_comm, add-mul, mul-le-mul_left, mul-add, arith}
+use Rattle.std.proofs.Common.{◌≡◌, ℕ, zero, suc, ◌+◌, ◌*◌, ◌<◌, ◌≤◌, true, false, cond, ◌||◌, eqb, List, [], ◌∷◌, ◌++◌, length, Some, sym, refl, ap, ◌∙◌, subst, ⊎_elim, mul_assoc, add-mul, mul-le-mul_left, mul-add, arith}
 use Rattle.std.proofs.lemmas.List.{length_push, get_or_push, get_or_append_left}
 use Rattle.std.proofs.lemmas.Bool.{cases_Bool, cases_eq, cases_lt, eq-eqb, ne_eqb, cond-true, cond-false, or_left, or_right, or_from}
 use Rattle.space.specs.declared.spot.Spot.{Spot}
 use Rattle.forest.specs.Rooted.{Forest}
 use Rattle.forest.specs.Rooted as rooted
-use Rattle.walk_laws.specs.Walk.{Rules, Table, hung, start}
-use Rattle.walk_laws.specs.Promise.{Anchor, Branch, Spanning, Guarantee, Hangs, Sink, Spares, Triangle, Ways, owed_at, sum_to, wire_at}
+use Rattle.walk_laws.specs.Walk.{Rules, Table}
+use Rattle.walk_laws.specs.Promise.{Branch, Spanning, Guarantee, Hangs, Ways, owed_at, sum_to, wire_at}
 use Rattle.walk_laws.proofs.Branches.{branch_rank}
 use Rattle.walk_laws.proofs.Keeps.{ends_below, first_below}
 use Rattle.tree_laws.specs.declared.Row.{Row}
 use Rattle.tree_laws.specs.Trees.Way.{home, down}
-use Rattle.tree_laws.specs.Trees.{Tree, Way, blank, climb, length_of, path_length, row_of, up, wire_of}
+use Rattle.tree_laws.specs.Trees.{Tree, Way, blank, length_of, path_length, row_of, up, wire_of}
 use Rattle.tree_laws.proofs.Adding.{add_wire}
-use Rattle.tree_laws.proofs.Ways.{path_driver, path_step, tree_from, way_from}
+use Rattle.tree_laws.proofs.Ways.{path_driver, path_step, tree_from}
 use Rattle.build_laws.specs.Straight.{Straight, straight, straight_row}
 
 module _ (R : Rules) (S : Table) (spots : ℕ → Spot) where

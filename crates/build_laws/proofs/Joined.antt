@@ -1,5 +1,5 @@
 -- Joining keeps the tree, every path and no more wire. Assumes nothing.
-use Rattle.std.proofs.Common.{◌≡◌, ℕ, ◌+◌, ◌<◌, ◌≤◌, Bool, true, false, cond, not, ◌&&◌, eqb, ◌⊎◌, List, [], ◌∷◌, ◌++◌, length, filter, sym, refl, ap, ◌∙◌, subst, inl, inr, ⊎_elim, arith}
+use Rattle.std.proofs.Common.{◌≡◌, ℕ, ◌+◌, ◌<◌, Bool, true, false, cond, not, ◌&&◌, eqb, ◌⊎◌, List, [], ◌∷◌, length, filter, sym, refl, ap, ◌∙◌, subst, inl, inr, ⊎_elim, arith}
 use Rattle.std.proofs.lemmas.Bool.{and_parts, cases_Bool, eqb-false, not-true}
 use Rattle.order.specs.Firsts.{Among}
 use Rattle.order.specs.Firsts.Among.{here, there}
@@ -9,7 +9,7 @@ use Rattle.space.specs.declared.spot.Spot.{Spot}
 use Rattle.tree_laws.specs.declared.Row.{Row}
 use Rattle.tree_laws.specs.Trees.{Child, Tree, length_of, path_length, row_of, spot_of, up, wire_of}
 use Rattle.tree_laws.proofs.Sharing.{between_length, between_new, between_other, between_paths, between_tree, between_wire}
-use Rattle.build_laws.specs.Joining.{Farthest, Grouped, JoiningKeeps, Joins, Kept, PairOf, far_of, meet_group, meet_of, meet_row}
+use Rattle.build_laws.specs.Joining.{Grouped, JoiningKeeps, Joins, Kept, PairOf, far_of, meet_group, meet_of, meet_row}
 use Rattle.build_laws.specs.Joining.Joins.{done, join}
 
 -- what stands in a group without two members stood in it

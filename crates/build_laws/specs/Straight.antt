@@ -1,12 +1,12 @@
 -- The straight tree of a finished walk: every breakpoint hangs on the driver, and every other node on its parent from the walk. Assumes nothing.
-use Rattle.std.specs.Prelude.{◌≡◌, ℕ, zero, suc, ◌+◌, ◌*◌, ◌<◌, ◌≤◌, Bool, true, false, cond, ◌||◌, List, [], ◌∷◌, ◌++◌, ◌==◌}
+use Rattle.std.specs.Prelude.{◌≡◌, ℕ, zero, suc, ◌+◌, ◌*◌, ◌<◌, ◌≤◌, true, cond, ◌||◌, List, [], ◌∷◌, ◌++◌, ◌==◌}
 use Rattle.space.specs.declared.spot.Spot.{Spot}
 use Rattle.forest.specs.Rooted.{Forest}
 use Rattle.forest.specs.Rooted as rooted
 use Rattle.walk_laws.specs.Walk.{Rules, Table}
 use Rattle.walk_laws.specs.Promise.{Branch, Guarantee, Sink, Spanning, Spares, Triangle}
 use Rattle.tree_laws.specs.declared.Row.{Row}
-use Rattle.tree_laws.specs.Trees.{Tree, length_of, path_length, row_of, up, wire_of}
+use Rattle.tree_laws.specs.Trees.{Tree, length_of, path_length, up, wire_of}
 
 -- The row of the node v: the driver's own, a breakpoint's on the driver at its direct distance, or one on the parent from the walk.
 abbrev pub straight_row : Rules → Table → (ℕ → Spot) → ℕ → Row

@@ -8,7 +8,7 @@ use tree::{Table, reach};
 
 /// The meet of `a` and `b` seen from `o`; `o` where there is none.
 pub fn join<S: Joining>(space: &S, o: Spot, a: Spot, b: Spot) -> Spot
-    ensures { result ≡ join_of S.Space S.Joining space.now o a b }
+    ensures { result ≡ join_of S.Space S.Joining.own space.now o a b }
 {
     match space.meet(o, a, b) {
         Some(z) => z,
@@ -29,7 +29,7 @@ pub fn hangs(table: &Table, v: usize, c: usize) -> bool
 /// Puts the meet of the rows `a` and `b`, seen from `v`, between `v` and both as a new row and answers its number. Refused, with the table
 /// as it was, where `a` and `b` are not two different children of `v` or there is no room for another row.
 pub fn part<S: Joining>(space: &S, table: &mut Table, v: usize, a: usize, b: usize) -> Option<usize>
-    ensures { Parted (reach_of S.Space space.now) (join_of S.Space S.Joining space.now) table.old v a b result table.new }
+    ensures { Parted (reach_of S.Space space.now) (join_of S.Space S.Joining.own space.now) table.old v a b result table.new }
 {
     if a == b || !hangs(table, v, a) || !hangs(table, v, b) {
         return None;

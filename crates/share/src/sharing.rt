@@ -35,7 +35,7 @@ pub struct Sharer {
 fn weigh<S: Joining>(space: &S, table: &Table, a: usize, b: usize) -> Option<Share>
     requires first { a < length (rows_of table.now) }
     requires second { b < length (rows_of table.now) }
-    ensures { BestOf share_before (ShareAt (rows_of table.now) (reach_of S.Space space.now) (join_of S.Space S.Joining space.now) a b) result }
+    ensures { BestOf share_before (ShareAt (rows_of table.now) (reach_of S.Space space.now) (join_of S.Space S.Joining.own space.now) a b) result }
 {
     if a == 0 {
         return None;
@@ -62,7 +62,7 @@ fn weigh<S: Joining>(space: &S, table: &Table, a: usize, b: usize) -> Option<Sha
 fn first_of<S: Joining>(space: &S, table: &Table, moves: &mut Vec<Share>, a: usize) -> Option<Share>
     requires row { a < length (rows_of table.now) }
     requires room { 768 ≤ vec_capacity moves.old }
-    ensures best { BestOf share_before (ShareOf (rows_of table.now) (reach_of S.Space space.now) (join_of S.Space S.Joining space.now) a (length (rows_of table.now))) result }
+    ensures best { BestOf share_before (ShareOf (rows_of table.now) (reach_of S.Space space.now) (join_of S.Space S.Joining.own space.now) a (length (rows_of table.now))) result }
     ensures room { vec_capacity moves.new ≡ vec_capacity moves.old }
 {
     moves.clear();
@@ -83,7 +83,7 @@ fn best<S: Joining>(
 ) -> Option<Share>
     requires moves { 768 ≤ vec_capacity moves.old }
     requires firsts { 768 ≤ vec_capacity firsts.old }
-    ensures best { BestOf share_before (ShareMove (rows_of table.now) (reach_of S.Space space.now) (join_of S.Space S.Joining space.now)) result }
+    ensures best { BestOf share_before (ShareMove (rows_of table.now) (reach_of S.Space space.now) (join_of S.Space S.Joining.own space.now)) result }
     ensures moves { vec_capacity moves.new ≡ vec_capacity moves.old }
     ensures firsts { vec_capacity firsts.new ≡ vec_capacity firsts.old }
 {
@@ -98,8 +98,8 @@ fn best<S: Joining>(
 
 /// Makes the move; refused, with the table as it was, where there is no room for another row.
 fn place<S: Joining>(space: &S, table: &mut Table, share: Share) -> bool
-    requires { ShareMove (rows_of table.old) (reach_of S.Space space.now) (join_of S.Space S.Joining space.now) share }
-    ensures { Placed (reach_of S.Space space.now) (join_of S.Space S.Joining space.now) table.old share result table.new }
+    requires { ShareMove (rows_of table.old) (reach_of S.Space space.now) (join_of S.Space S.Joining.own space.now) share }
+    ensures { Placed (reach_of S.Space space.now) (join_of S.Space S.Joining.own space.now) table.old share result table.new }
 {
     let a = table.at(share.a).spot;
     let b = table.at(share.b).spot;
@@ -123,7 +123,7 @@ impl Sharer {
     /// Makes the best share move and answers what it saves; the table stays as it was where no move saves 1 or more, and where there is no
     /// room for another row.
     pub fn share<S: Joining>(&mut self, space: &S, table: &mut Table) -> Sharing
-        ensures { Shared S.Space S.Joining space.now table.old result table.new }
+        ensures { Shared S.Space S.Joining.own space.now table.old result table.new }
     {
         let Some(share) = best(space, table, &mut self.moves, &mut self.firsts) else {
             return Sharing::Nothing;

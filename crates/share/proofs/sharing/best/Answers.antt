@@ -1,4 +1,4 @@
-use Rattle.std.proofs.Common.{◌≡◌, ℕ, ◌+◌, ◌<◌, ◌≤◌, List, [], ◌∷◌, ◌++◌, length, vec_items, sym, refl, ap, ◌∙◌, subst, arith}
+use Rattle.std.proofs.Common.{◌+◌, ◌≤◌, List, length, vec_items, sym, refl, ◌∙◌, subst, arith}
 use Rattle.order.specs.Firsts.{FirstOf}
 use Rattle.share.specs.declared.share.Share.{Share}
 use Rattle.share.specs.Shares.{ShareMove, ShareBelow, join_of, share_before}

@@ -1,4 +1,4 @@
-use Rattle.std.proofs.Common.{◌≡◌, Some, None, refl}
+use Rattle.std.proofs.Common.{Some, None, refl}
 use Rattle.tree_laws.proofs.Ways.{hung}
 use Rattle.tree.specs.Tables.{rows_of}
 use Rattle.tree.proofs.Tabled.{tree_of}
