@@ -1,12 +1,12 @@
 -- Sound edges as they were taken, one after another.
-use Rattle.std.proofs.Common.{◌≡◌, ℕ, zero, suc, ◌+◌, ◌*◌, ◌<◌, ◌≤◌, ◌⊎◌, List, [], ◌∷◌, ◌++◌, length, get_or, take, sym, refl, ap, ◌∙◌, subst, inl, inr, ⊎_elim, add-one, arith}
-use Rattle.std.proofs.lemmas.List.{take_more, take_all, take-take, take-append-le, get_or_append_left, get_or_push, get_or-take, length_push, length-take-le}
+use Rattle.std.proofs.Common.{◌≡◌, ℕ, zero, suc, ◌+◌, ◌*◌, ◌<◌, ◌≤◌, List, [], ◌∷◌, ◌++◌, length, get_or, take, sym, ap, ◌∙◌, subst, ⊎_elim, add-one, arith}
+use Rattle.std.proofs.lemmas.List.{take_more, take_all, take-append-le, get_or_append_left, get_or_push, length_push, length-take-le}
 use Rattle.std.proofs.lemmas.Bool.{cases_lt}
 use Rattle.order.specs.Firsts.{Among}
 use Rattle.order.proofs.Finding.{among_either, among_one, among_none}
 use Rattle.forest.specs.declared.Edge.{Edge}
 use Rattle.forest.specs.Edges.{Near, Joined, Fit, Sound, wire}
-use Rattle.forest.specs.Edges.Joined.{same, step}
+use Rattle.forest.specs.Edges.Joined.{same}
 
 -- Sound edges, built up one by one.
 pub data Accepted (n : ℕ) : List Edge → Type 0 where

@@ -1,11 +1,11 @@
 -- Lemmas on neighbours, on what edges join, and on one more edge.
-use Rattle.std.proofs.Common.{◌≡◌, ℕ, zero, suc, ◌+◌, ◌<◌, ◌≤◌, ◌⊎◌, List, [], ◌∷◌, ◌++◌, length, get_or, take, sym, refl, ap, ◌∙◌, subst, inl, inr, ⊎_elim, arith}
-use Rattle.std.proofs.lemmas.List.{append-nil, append_assoc, take_more, take_all}
+use Rattle.std.proofs.Common.{◌≡◌, ℕ, ◌⊎◌, List, [], ◌∷◌, ◌++◌, sym, refl, subst, inl, inr, ⊎_elim}
+use Rattle.std.proofs.lemmas.List.{append-nil, append_assoc}
 use Rattle.order.specs.Firsts.{Among}
-use Rattle.order.specs.Firsts.Among.{here, there}
+use Rattle.order.specs.Firsts.Among.{here}
 use Rattle.order.proofs.Finding.{among_left, among_right, among_either, among_one, among_none}
 use Rattle.forest.specs.declared.Edge.{Edge}
-use Rattle.forest.specs.Edges.{Between, Near, Joined, Fit, Sound}
+use Rattle.forest.specs.Edges.{Between, Near, Joined}
 use Rattle.forest.specs.Edges.Joined.{same, step}
 
 -- ---- an induction over the edges in the order in which they were taken

@@ -1,12 +1,12 @@
 -- A tree hung below a node of another tree, in ascending place.
-use Rattle.std.proofs.Common.{◌≡◌, ℕ, zero, suc, ◌+◌, ◌<◌, ◌≤◌, ◌⊎◌, List, [], ◌∷◌, ◌++◌, sym, refl, ap, ◌∙◌, subst, inl, inr, ⊎_elim, arith}
+use Rattle.std.proofs.Common.{◌≡◌, ℕ, ◌+◌, ◌<◌, ◌≤◌, ◌⊎◌, List, sym, refl, subst, inl, inr, ⊎_elim, arith}
 use Rattle.std.proofs.lemmas.Bool.{cases_eq, cases_order}
 use Rattle.forest.specs.declared.Edge.{Edge}
 use Rattle.forest.specs.Edges.{Near}
 use Rattle.forest.specs.Rooted.{Forest, In}
 use Rattle.forest.specs.Rooted.Forest.{none, kid}
 use Rattle.forest.specs.Rooted.In.{here, under, beside}
-use Rattle.forest.specs.Growth.{Nothing, Least, Grows}
+use Rattle.forest.specs.Growth.{Least, Grows}
 use Rattle.forest.specs.Growth.Grows.{bare, grown}
 
 -- No node stands in the forest twice.

@@ -1,9 +1,9 @@
 -- Counting the parts: each has one node that is its own label, and each edge leaves one part fewer.
-use Rattle.std.proofs.Common.{◌≡◌, ℕ, zero, suc, ◌+◌, ◌<◌, ◌≤◌, Bool, true, false, cond, eqb, ◌⊎◌, List, [], ◌∷◌, ◌++◌, length, sym, refl, ap, ◌∙◌, subst, inl, inr, ⊎_elim, arith}
+use Rattle.std.proofs.Common.{◌≡◌, ℕ, zero, suc, ◌+◌, ◌<◌, ◌≤◌, cond, eqb, List, [], ◌∷◌, ◌++◌, length, sym, refl, ap, ◌∙◌, subst, ⊎_elim, arith}
 use Rattle.std.proofs.lemmas.Bool.{cases_eq, eq-eqb, ne_eqb, cond-true, cond-false, cases_order}
 use Rattle.std.proofs.lemmas.List.{length_push}
 use Rattle.forest.specs.declared.Edge.{Edge}
-use Rattle.forest.specs.Edges.{Joined, Fit}
+use Rattle.forest.specs.Edges.{Joined}
 use Rattle.forest.specs.Labels.{merged, label_of}
 use Rattle.forest.proofs.Labelled.{merged_in, merged_out, label_push, label_joined, label_head}
 use Rattle.forest.proofs.Accepted.{Accepted}

@@ -1,14 +1,13 @@
 -- Nodes have equal labels exactly where the edges join them.
-use Rattle.std.proofs.Common.{◌≡◌, ℕ, zero, suc, ◌+◌, ◌<◌, ◌≤◌, Bool, true, false, cond, eqb, ◌⊎◌, List, [], ◌∷◌, ◌++◌, sym, refl, ap, ◌∙◌, subst, inl, inr, ⊎_elim, arith}
+use Rattle.std.proofs.Common.{◌≡◌, ℕ, cond, eqb, List, [], ◌∷◌, ◌++◌, sym, refl, ap, ◌∙◌, subst, ⊎_elim}
 use Rattle.std.proofs.lemmas.Bool.{cases_eq, eq-eqb, ne_eqb, cond-true, cond-false}
 use Rattle.order.specs.Firsts.{Among}
-use Rattle.order.specs.Firsts.Among.{here, there}
 use Rattle.order.proofs.Finding.{among_either, among_one, among_none}
 use Rattle.forest.specs.declared.Edge.{Edge}
-use Rattle.forest.specs.Edges.{Between, Near, Joined}
+use Rattle.forest.specs.Edges.{Near, Joined}
 use Rattle.forest.specs.Edges.Joined.{same, step}
 use Rattle.forest.specs.Labels.{merged, labels_from, label_of}
-use Rattle.forest.proofs.Chains.{by_pushes, near_back, near_new, near_none, joined_on, joined_back, joined_push, joined_new}
+use Rattle.forest.proofs.Chains.{by_pushes, joined_on, joined_back, joined_push, joined_new}
 
 -- ---- one more edge
 

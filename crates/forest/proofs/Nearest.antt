@@ -1,9 +1,9 @@
 -- The least neighbour, over one more edge.
-use Rattle.std.proofs.Common.{◌≡◌, ℕ, ◌+◌, ◌<◌, ◌≤◌, ◌⊎◌, List, [], ◌∷◌, ◌++◌, Some, None, Option, sym, refl, ap, ◌∙◌, subst, inl, inr, ⊎_elim, arith}
+use Rattle.std.proofs.Common.{◌≡◌, ℕ, ◌+◌, ◌<◌, ◌≤◌, List, [], ◌∷◌, ◌++◌, Some, None, Option, sym, refl, ap, ◌∙◌, subst, ⊎_elim, arith}
 use Rattle.order.specs.Firsts.Among.{here}
 use Rattle.order.proofs.Finding.{among_right}
 use Rattle.forest.specs.declared.Edge.{Edge}
-use Rattle.forest.specs.Edges.{Between, Near, Joined, Fit}
+use Rattle.forest.specs.Edges.{Between, Near, Joined}
 use Rattle.forest.specs.Rooted.{Forest}
 use Rattle.forest.specs.Rooted.Forest.{none, kid}
 use Rattle.forest.specs.Growth.{Nothing, Least, LeastOf, Grows, head_of}

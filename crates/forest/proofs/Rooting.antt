@@ -1,22 +1,22 @@
 -- Every part of accepted edges is a tree that can be seen from any of its nodes.
-use Rattle.std.proofs.Common.{◌≡◌, ℕ, zero, suc, ◌+◌, ◌<◌, ◌≤◌, cond, eqb, ◌⊎◌, List, [], ◌∷◌, ◌++◌, length, sym, refl, ap, ◌∙◌, subst, inl, inr, ⊎_elim, arith}
+use Rattle.std.proofs.Common.{◌≡◌, ℕ, ◌+◌, ◌<◌, ◌≤◌, cond, eqb, ◌⊎◌, List, [], ◌∷◌, ◌++◌, length, sym, refl, ap, ◌∙◌, subst, inl, inr, ⊎_elim, arith}
 use Rattle.std.proofs.lemmas.Bool.{cases_eq, eq-eqb, ne_eqb, cond-true, cond-false}
 use Rattle.order.specs.Firsts.{Among}
 use Rattle.forest.specs.declared.Edge.{Edge}
-use Rattle.forest.specs.Edges.{Between, Near, Joined, Fit, Sound, wire}
-use Rattle.forest.specs.Labels.{merged, label_of}
+use Rattle.forest.specs.Edges.{Near, Fit}
+use Rattle.forest.specs.Labels.{label_of}
 use Rattle.forest.specs.Rooted.{Forest, wire_of, size_of, Ranked, In}
 use Rattle.forest.specs.Rooted.Forest.{none, kid}
 use Rattle.forest.specs.Rooted.In.{here, under, beside}
-use Rattle.forest.specs.Growth.{Nothing, Least, Grows, Planted}
+use Rattle.forest.specs.Growth.{Grows, Planted}
 use Rattle.forest.specs.Growth.Grows.{bare, grown}
 use Rattle.forest.proofs.Chains.{near_back, near_none, near_push, near_new, near_cases}
-use Rattle.forest.proofs.Labelled.{merged_in, merged_out, merged_same, label_push, label_joined}
-use Rattle.forest.proofs.Accepted.{Accepted, accepted, accepted_good, near_below, near_other}
+use Rattle.forest.proofs.Labelled.{merged_in, merged_out, label_push, label_joined}
+use Rattle.forest.proofs.Accepted.{Accepted, accepted_good, near_below, near_other}
 use Rattle.forest.proofs.Accepted.Accepted.{start, more}
 use Rattle.forest.proofs.Heads.{one_label}
-use Rattle.forest.proofs.Grafting.{Apart, total_of, Grafted, Foreign, New, Clear, in_cases, grows_same, grows_turn, insert, graft}
-use Rattle.forest.proofs.Parts.{pick, pick_yes, pick_no, part_sum, part_none, part_push, part_join, part_keep, part_wire, part_count}
+use Rattle.forest.proofs.Grafting.{Apart, total_of, Grafted, New, Clear, in_cases, grows_same, grows_turn, insert, graft}
+use Rattle.forest.proofs.Parts.{pick_yes, pick_no, part_sum, part_none, part_push, part_join, part_keep, part_wire, part_count}
 
 -- The forest is what is joined with r but for r itself, each node once.
 pub record Rooted (E : List Edge) (r : ℕ) (F : Forest) : Type 0 where

@@ -1,11 +1,11 @@
 -- Between joined nodes there is a path, and over accepted edges no other.
-use Rattle.std.proofs.Common.{◌≡◌, ℕ, zero, suc, ◌+◌, ◌<◌, ◌≤◌, ◌⊎◌, List, [], ◌∷◌, ◌++◌, length, sym, refl, ap, ◌∙◌, subst, inl, inr, ⊎_elim, arith}
+use Rattle.std.proofs.Common.{◌≡◌, ℕ, ◌+◌, ◌⊎◌, List, [], ◌∷◌, ◌++◌, length, sym, refl, ap, ◌∙◌, subst, inl, inr, ⊎_elim}
 use Rattle.std.proofs.lemmas.Bool.{cases_eq}
 use Rattle.order.specs.Firsts.{Among}
 use Rattle.order.specs.Firsts.Among.{here, there}
 use Rattle.order.proofs.Finding.{among_left, among_right, among_one, among_none}
 use Rattle.forest.specs.declared.Edge.{Edge}
-use Rattle.forest.specs.Edges.{Between, Near, Joined, Fit}
+use Rattle.forest.specs.Edges.{Between, Near, Joined}
 use Rattle.forest.specs.Edges.Joined.{same, step}
 use Rattle.forest.specs.Paths.{Way, Different, Path, Tree}
 use Rattle.forest.specs.Paths.Way.{stay, go}

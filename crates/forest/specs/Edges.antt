@@ -1,5 +1,5 @@
 -- Edges between numbered nodes, what they join, and which lists of edges are seeds. Assumes nothing.
-use Rattle.std.specs.Prelude.{◌≡◌, ℕ, ◌+◌, ◌<◌, ◌≤◌, ◌⊎◌, List, [], ◌∷◌, ◌++◌, length, take, slice_index_or}
+use Rattle.std.specs.Prelude.{◌≡◌, ℕ, ◌+◌, ◌<◌, ◌≤◌, ◌⊎◌, List, [], ◌∷◌, length, take, slice_index_or}
 use Rattle.order.specs.Firsts.{Among}
 use Rattle.forest.specs.declared.Edge.{Edge}
 

@@ -1,7 +1,7 @@
 -- A tree of edges seen from one of its nodes, with the neighbours of each node taken in ascending number. Assumes nothing.
 use Rattle.std.specs.Prelude.{◌≡◌, ℕ, ◌+◌, ◌<◌, ◌≤◌, List, Some, None, Option, ◌≢◌}
 use Rattle.forest.specs.declared.Edge.{Edge}
-use Rattle.forest.specs.Edges.{Near, Joined, wire}
+use Rattle.forest.specs.Edges.{Near, wire}
 use Rattle.forest.specs.Rooted.{Forest, wire_of, size_of, Ranked, In}
 use Rattle.forest.specs.Rooted.Forest.{none, kid}
 

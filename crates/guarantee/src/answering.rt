@@ -51,7 +51,7 @@ pub(crate) fn make<S: Space>(net: &mut Net<S>, call: Call) -> Result<u64, Fault>
 
 /// Makes the call over a joining space.
 pub(crate) fn make_joining<S: Joining>(net: &mut Net<S>, call: JoinCall) -> Result<u64, Fault>
-    ensures answer { Whole S.Space net.old.space (seen net.old.board) → JoinAnswers (joining S.Space S.Joining net.old.space) (seen net.old.board) (seen net.new.board) call result × Whole S.Space net.old.space (seen net.new.board) }
+    ensures answer { Whole S.Space net.old.space (seen net.old.board) → JoinAnswers (joining S.Space S.Joining.own net.old.space) (seen net.old.board) (seen net.new.board) call result × Whole S.Space net.old.space (seen net.new.board) }
     ensures stays { net.new.space ≡ net.old.space }
 {
     match call {

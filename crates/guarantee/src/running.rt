@@ -33,7 +33,7 @@ pub fn run_joining<S: Joining>(
     answers: &mut [Result<u64, Fault>],
 ) -> usize
     ensures count { result ≡ min (length calls.now) (length answers.old) }
-    ensures kept { Whole S.Space net.old.space (seen net.old.board) → Kept (joiningWorld S.Space S.Joining net.old.space) (seen net.old.board) (take result calls.now) (take result answers.new) (seen net.new.board) × Whole S.Space net.old.space (seen net.new.board) }
+    ensures kept { Whole S.Space net.old.space (seen net.old.board) → Kept (joiningWorld S.Space S.Joining.own net.old.space) (seen net.old.board) (take result calls.now) (take result answers.new) (seen net.new.board) × Whole S.Space net.old.space (seen net.new.board) }
     ensures rest { (k : ℕ) (d : Answered ℕ Refusal) → result ≤ k → slice_index_or answers.new k d ≡ slice_index_or answers.old k d }
     ensures stays { net.new.space ≡ net.old.space }
 {
@@ -65,7 +65,7 @@ pub fn guarantee<W: Space, J: Joining>(
     ensures wiring { seen wiring.old.board ≡ fresh → Kept (wiringWorld W.Space wiring.old.space) fresh (wired (take result.wiring calls.now)) (take result.wiring answers.new) (seen wiring.new.board) }
     ensures wiring_stays { wiring.new.space ≡ wiring.old.space }
     ensures joining_count { result.joining ≡ min (length joining_calls.now) (length joining_answers.old) }
-    ensures joining { seen joining.old.board ≡ fresh → Kept (joiningWorld J.Space J.Joining joining.old.space) fresh (take result.joining joining_calls.now) (take result.joining joining_answers.new) (seen joining.new.board) }
+    ensures joining { seen joining.old.board ≡ fresh → Kept (joiningWorld J.Space J.Joining.own joining.old.space) fresh (take result.joining joining_calls.now) (take result.joining joining_answers.new) (seen joining.new.board) }
     ensures joining_stays { joining.new.space ≡ joining.old.space }
 {
     let first = run(wiring, calls, answers);

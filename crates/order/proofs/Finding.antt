@@ -1,7 +1,7 @@
 -- Lemmas on the first of a list: it is unique, how it is found in one pass, and how it is found in stages.
 use Rattle.std.proofs.Common.{◌≡◌, ℕ, zero, suc, ◌+◌, ◌-◌, ◌<◌, Bool, true, false, ◌⊎◌, List, [], ◌∷◌, ◌++◌, length, get_or, take, drop, Some, None, Option, sym, refl, ap, ◌∙◌, subst, inl, inr, ⊎_elim, arith}
 use Rattle.std.proofs.lemmas.Bool.{both_ways, cases_Bool}
-use Rattle.std.proofs.lemmas.List.{take_more, take_all, take_rest, get_or_read}
+use Rattle.std.proofs.lemmas.List.{take_more, take_rest}
 use Rattle.order.specs.Orders.{Order}
 use Rattle.order.specs.Firsts.{Among, First, FirstOf, Covers, Winners, together}
 use Rattle.order.specs.Firsts.Among.{here, there}

@@ -1,5 +1,5 @@
 -- The first of a list of candidates, and which candidates decide it. `lt x y` says that x comes before y. Assumes nothing.
-use Rattle.std.specs.Prelude.{◌≡◌, Bool, true, false, List, [], ◌∷◌, ◌++◌, Some, None, Option}
+use Rattle.std.specs.Prelude.{◌≡◌, Bool, false, List, [], ◌∷◌, ◌++◌, Some, None, Option}
 
 -- x stands in the list.
 pub data Among {X : Type 0} (x : X) : List X → Type 0 where

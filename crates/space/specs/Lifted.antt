@@ -1,6 +1,6 @@
 -- A lift over a space that keeps the laws keeps them too. Assumes nothing.
-use Rattle.std.specs.Prelude.{◌≡◌, ℕ, ◌+◌, ◌*◌, ◌≤◌, Bool, true, ◌&&◌, ℤ, pos, int_le, refl}
-use Rattle.std.proofs.Common.{sym, ap, subst, ◌∙◌, mul-le-mul_left, mul-add, arith}
+use Rattle.std.specs.Prelude.{◌≡◌, ℕ, ◌+◌, ◌*◌, ◌≤◌, Bool, true, ℤ, pos, int_le, refl}
+use Rattle.std.proofs.Common.{sym, ap, ◌∙◌, mul-le-mul_left, mul-add, arith}
 use borrow.Author.Differences.{true_is_le}
 use Rattle.std.proofs.lemmas.Int.{ints, clamps}
 use Rattle.std.proofs.lemmas.Bool.{and_parts, and_from}

@@ -1,5 +1,5 @@
 -- The formulas of the built spaces: plane, air and lift. Assumes nothing.
-use Rattle.std.specs.Prelude.{◌≡◌, ℕ, zero, suc, ◌+◌, ◌-◌, ◌*◌, ◌^◌, ◌≤◌, min, Bool, true, false, cond, ◌&&◌, ℤ, pos, ◌-ℤ◌, ◌==◌, int_le, nat_le, unsigned_abs}
+use Rattle.std.specs.Prelude.{◌≡◌, ℕ, zero, suc, ◌+◌, ◌-◌, ◌*◌, ◌^◌, ◌≤◌, min, Bool, cond, ◌&&◌, ℤ, pos, ◌-ℤ◌, ◌==◌, int_le, nat_le, unsigned_abs}
 use Rattle.std.specs.Int.{int_max, int_min}
 use Rattle.space.specs.declared.spot.Spot.{Spot}
 

@@ -1,10 +1,9 @@
 -- The line and the vast space keep the laws. Assumes nothing.
-use Rattle.std.specs.Prelude.{◌≡◌, ℕ, ◌+◌, ◌≤◌, Bool, true, cond, ◌&&◌, ℤ, pos, ◌==◌, unsigned_abs, refl}
+use Rattle.std.specs.Prelude.{◌≡◌, ℕ, ◌+◌, ◌≤◌, true, cond, ◌==◌, unsigned_abs, refl}
 use Rattle.std.proofs.Common.{ap, arith}
 use Rattle.std.proofs.lemmas.Bool.{and_parts, and_from, leb-true, le-leb}
 use Rattle.std.proofs.lemmas.Bool.Decides.{nat_tests}
 use Rattle.space.specs.Laws.{Metric, Meets}
-use Rattle.space.specs.Shapes.{apart, middle}
 use Rattle.space.specs.declared.spot.Spot.{Spot}
 use Rattle.space.specs.Grid.{apart_self, apart_swap, apart_by, apart_within, middle_first, middle_second, middle_within}
 use Rattle.space_tests.specs.Outside.{is_on_line, line_between, line_meeting, vast_between}

@@ -1,14 +1,11 @@
 -- A row added to a tree, and two rows hung on an added one: still a tree, and how paths and wire change. Assumes nothing.
-use Rattle.std.proofs.Common.{◌≡◌, ℕ, zero, suc, ◌+◌, ◌<◌, ◌≤◌, Bool, true, false, cond, ◌⊎◌, List, [], ◌∷◌, ◌++◌, length, get_or, set, sum_by, sym, refl, ap, ◌∙◌, subst, inl, inr, ⊎_elim, arith}
+use Rattle.std.proofs.Common.{◌≡◌, ℕ, ◌+◌, ◌<◌, ◌≤◌, List, [], ◌∷◌, ◌++◌, length, get_or, sym, refl, ap, ◌∙◌, subst, ⊎_elim, arith}
 use Rattle.std.proofs.lemmas.List.{length_push, get_or_append_left, get_or_push, get_or_past}
 use Rattle.std.proofs.lemmas.List.Sums.{sum_by_push}
-use Rattle.std.proofs.lemmas.Bool.{cases_eq, cases_lt, cases_Bool, both_ways}
-use Rattle.order.specs.Firsts.{Among}
-use Rattle.order.specs.Firsts.Among.{here, there}
-use Rattle.order.proofs.Finding.{among_either, among_one, among_left, among_right}
+use Rattle.std.proofs.lemmas.Bool.{cases_eq, cases_lt}
 use Rattle.space.specs.declared.spot.Spot.{Spot}
 use Rattle.tree_laws.specs.declared.Row.{Row}
-use Rattle.tree_laws.specs.Trees.{Tree, Way, blank, up, length_of, spot_of, path_length, wire_of, under, along, add}
+use Rattle.tree_laws.specs.Trees.{Tree, Way, blank, up, length_of, path_length, wire_of, along, add}
 use Rattle.tree_laws.specs.Trees.Way.{home, down}
 use Rattle.tree_laws.proofs.Ways.{placed, path_of_lem, tree_from}
 

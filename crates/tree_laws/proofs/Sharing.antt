@@ -1,13 +1,13 @@
 -- A new row between a row and two of its children, on the ways to both: still a tree, every path as it was, and less wire. Assumes nothing.
-use Rattle.std.proofs.Common.{◌≡◌, ℕ, ◌+◌, ◌<◌, ◌≤◌, Bool, true, false, ◌⊎◌, List, [], ◌∷◌, ◌++◌, length, sym, refl, ap, ◌∙◌, subst, ⊎_elim, arith}
+use Rattle.std.proofs.Common.{◌≡◌, ℕ, ◌+◌, ◌<◌, List, [], ◌∷◌, ◌++◌, length, sym, ap, ◌∙◌, subst, ⊎_elim, arith}
 use Rattle.std.proofs.lemmas.List.{get_or-set_other, get_or-set_same}
 use Rattle.order.specs.Firsts.{Among}
 use Rattle.order.proofs.Finding.{among_either, among_one}
 use Rattle.space.specs.declared.spot.Spot.{Spot}
 use Rattle.tree_laws.specs.declared.Row.{Row}
-use Rattle.tree_laws.specs.Trees.{Child, Tree, Way, Hangs, blank, up, length_of, spot_of, row_of, path_length, wire_of, under, hang, add, between}
+use Rattle.tree_laws.specs.Trees.{Child, Tree, Way, Hangs, blank, length_of, spot_of, row_of, path_length, wire_of, hang, add, between}
 use Rattle.tree_laws.proofs.Ways.{placed, path_step, not_above, off_under}
-use Rattle.tree_laws.proofs.Hanging.{hang_length, hang_wire, hang_tree, hang_keeps, hang_level, long_other, way_stays}
+use Rattle.tree_laws.proofs.Hanging.{hang_length, hang_wire, hang_tree, hang_level, long_other, way_stays}
 use Rattle.tree_laws.proofs.Adding.{add_length, add_wire, add_old, add_new, add_tree, add_keeps, add_path, add_new_way}
 
 module _ {rows : List Row} (t : Tree rows) (v : ℕ) (hv : v < length rows) (z : Spot) (l a la b lb : ℕ) (ca : Child rows v a) (cb : Child rows v b) (apart : b ≡ a → ⊥) where

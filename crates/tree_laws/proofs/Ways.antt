@@ -1,10 +1,10 @@
 -- Ways of a tree: every row has exactly one, no row stands in it twice, and it is not longer than the table. Assumes nothing.
-use Rattle.std.proofs.Common.{◌≡◌, ℕ, zero, suc, ◌+◌, ◌<◌, ◌≤◌, Bool, true, false, cond, eqb, ◌⊎◌, List, [], ◌∷◌, ◌++◌, length, get_or, sum_by, sym, refl, ap, ◌∙◌, subst, inl, inr, ⊎_elim, arith}
-use Rattle.std.proofs.lemmas.List.{length_push, same_from_push}
+use Rattle.std.proofs.Common.{◌≡◌, ℕ, zero, suc, ◌+◌, ◌<◌, ◌≤◌, true, false, List, [], ◌∷◌, ◌++◌, length, sym, refl, ap, ◌∙◌, subst, ⊎_elim, arith}
+use Rattle.std.proofs.lemmas.List.{length_push}
 use Rattle.std.proofs.lemmas.List.Sums.{sum_by_push}
 use Rattle.std.proofs.lemmas.Bool.{cases_eq, eq-eqb, ne_eqb, eqb-true, cases_Bool, both_ways}
 use Rattle.order.specs.Firsts.{Among}
-use Rattle.order.specs.Firsts.Among.{here, there}
+use Rattle.order.specs.Firsts.Among.{here}
 use Rattle.order.proofs.Finding.{among_none, among_either, among_one, among_left, among_right}
 use Rattle.forest.specs.Paths.{Different}
 use Rattle.tree_laws.specs.declared.Row.{Row}

@@ -1,5 +1,5 @@
 -- How large estimates can get: at any moment none is above the way gone so far, and the whole way is twice the wire. Assumes q at least 1 where a node is entered.
-use Rattle.std.proofs.Common.{◌≡◌, ℕ, ◌+◌, ◌*◌, ◌<◌, ◌≤◌, Bool, true, false, cond, ◌&&◌, ltb, ◌⊎◌, Some, None, Option, sym, refl, ap, ◌∙◌, subst, inl, inr, le_refl, mul-add, arith}
+use Rattle.std.proofs.Common.{◌≡◌, ℕ, ◌+◌, ◌*◌, ◌<◌, ◌≤◌, Bool, true, ◌&&◌, ltb, ◌⊎◌, Some, None, Option, sym, refl, ap, ◌∙◌, inl, inr, le_refl, mul-add, arith}
 use Rattle.std.proofs.lemmas.Bool.{cases_eq, cond_both, ltb-true, and_parts}
 use Rattle.forest.specs.Rooted.{Forest, none, kid, Ranked, wire_of, size_of}
 use Rattle.walk_laws.specs.Walk.{Mark, Table, Rules, is_a_sink, hung, start, relaxed, relax, entered, enter}

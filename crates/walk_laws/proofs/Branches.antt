@@ -1,5 +1,5 @@
 -- Edges of a ranked forest: a parent comes before its child, and no two edges have the same lower end. Assumes ranks.
-use Rattle.std.proofs.Common.{◌≡◌, ℕ, ◌+◌, ◌<◌, ◌≤◌, ◌⊎◌, sym, refl, ap, ◌∙◌, subst, inl, inr, arith}
+use Rattle.std.proofs.Common.{◌≡◌, ℕ, ◌+◌, ◌<◌, ◌≤◌, ◌⊎◌, sym, refl, ap, ◌∙◌, inl, inr, arith}
 use Rattle.forest.specs.Rooted.{Forest, none, kid, Ranked, In, here, under, beside}
 use Rattle.walk_laws.specs.Promise.{Branch}
 

@@ -1,5 +1,5 @@
 -- Going from parent to parent: how many steps that can take, and the lengths that add up on the way. Assumes nothing.
-use Rattle.std.proofs.Common.{◌≡◌, ℕ, zero, suc, ◌+◌, ◌<◌, ◌≤◌, Bool, true, false, cond, eqb, ltb, ◌⊎◌, Some, None, Option, sym, refl, ap, ◌∙◌, subst, inl, inr, arith}
+use Rattle.std.proofs.Common.{◌≡◌, ℕ, zero, suc, ◌+◌, ◌<◌, ◌≤◌, true, false, cond, eqb, ltb, ◌⊎◌, Some, None, Option, sym, refl, ap, ◌∙◌, inl, inr, arith}
 use Rattle.std.proofs.lemmas.Bool.{cases_eq, cond-true, cond-false, cond_both, eq-eqb, ltb-true, lt-ltb, le-ltb}
 use Rattle.walk_laws.specs.Walk.{Table, Rules}
 use Rattle.walk_laws.specs.Promise.{sum_to, climb, Anchor}

@@ -1,16 +1,16 @@
 -- The whole guarantee, from what holds at the end of the walk. Assumes a seed that is a tree and q at least 1.
-use Rattle.std.proofs.Common.{◌≡◌, ℕ, zero, suc, ◌+◌, ◌*◌, ◌<◌, ◌≤◌, Bool, true, false, cond, ◌||◌, eqb, ◌⊎◌, Some, None, Option, sym, refl, ap, ◌∙◌, subst, inl, inr, ⊎_elim, le_refl, mul-add, arith}
-use Rattle.std.proofs.lemmas.Bool.{cases_eq, cases_Bool, both_ways, cond-true, cond-false, eq-eqb, ne_eqb, eqb-false}
-use Rattle.forest.specs.Rooted.{Forest, Ranked, In, wire_of}
-use Rattle.walk_laws.specs.Walk.{Mark, Table, Rules, is_a_sink, hung, blank, home, start, walk}
+use Rattle.std.proofs.Common.{◌≡◌, ℕ, zero, suc, ◌+◌, ◌*◌, ◌<◌, ◌≤◌, true, false, cond, ◌||◌, eqb, ◌⊎◌, Some, sym, refl, ap, ◌∙◌, inl, inr, ⊎_elim, le_refl, mul-add, arith}
+use Rattle.std.proofs.lemmas.Bool.{cases_eq, cases_Bool, both_ways, cond-false, eq-eqb, ne_eqb, eqb-false}
+use Rattle.forest.specs.Rooted.{Forest, wire_of}
+use Rattle.walk_laws.specs.Walk.{Table, Rules, is_a_sink, hung, start, walk}
 use Rattle.walk_laws.specs.Promise.{Branch, Path, Spanning, Sink, Triangle, Spares, sum_to, owed_at, wire_at, Hangs, climb, Anchor, Ways, Guarantee, WalkKeeps}
 use Rattle.walk_laws.proofs.Steps.{some_inj, start_blank, start_est}
 use Rattle.walk_laws.proofs.Branches.{in_branch, ranked_up, branch_rank, branch_up}
 use Rattle.walk_laws.proofs.Sums.{sum_same, sum_none, sum_le}
 use Rattle.walk_laws.proofs.Standing.{Standing, Good, HangsAt, standing_down, standing_up, walk_by}
-use Rattle.walk_laws.proofs.Wire.{hook, load, both, hook_once, both_le, load_sum, load_low, load_high}
+use Rattle.walk_laws.proofs.Wire.{load, hook_once, both_le, load_sum, load_low, load_high}
 use Rattle.walk_laws.proofs.Climbs.{lower, lower_falls, lower_fewer, way_by_climb, way_driver, way_broken, way_other, way_settled}
-use Rattle.walk_laws.proofs.Spare.{sink_from, sink_is, walk_spares, Ready, Spared}
+use Rattle.walk_laws.proofs.Spare.{sink_from, sink_is, walk_spares, Ready}
 
 start_owed : (R : Rules) (k : ℕ) → (k ≡ 0) ⊎ (k ≡ 0 → ⊥) → owed_at R start k ≡ 0
 start_owed R k (inl s) = ap (λ z. cond (start z).broken (R.direct k) 0) s

@@ -1,12 +1,12 @@
 -- The walk as a loop that keeps its place in the rows: where each node was entered from, over which length, and the next child to try.
 -- Assumes sound edges that are planted.
-use Rattle.std.proofs.Common.{◌≡◌, ℕ, ◌+◌, ◌*◌, ◌<◌, ◌≤◌, ◌⊎◌, List, [], ◌∷◌, ◌++◌, Some, None, sym, refl, ap, ◌∙◌, subst, inl, inr, ⊎_elim, arith}
+use Rattle.std.proofs.Common.{◌≡◌, ℕ, ◌+◌, ◌*◌, ◌<◌, ◌≤◌, ◌⊎◌, List, Some, sym, refl, ap, ◌∙◌, subst, inl, inr, arith}
 use Rattle.forest.specs.declared.Edge.{Edge}
-use Rattle.forest.specs.Edges.{Near, Joined, Sound, Between}
+use Rattle.forest.specs.Edges.{Near, Joined, Between}
 use Rattle.forest.specs.Growth.{Nothing, Least, Grows, Planted}
 use Rattle.forest.specs.Growth.Grows.{bare, grown}
 use Rattle.forest.specs.Rooted.{Forest, none, kid, wire_of, size_of, Ranked}
-use Rattle.forest.proofs.Accepted.{Accepted, start, more, accepted, accepted_good, near_below}
+use Rattle.forest.proofs.Accepted.{Accepted, start, more}
 use Rattle.forest.proofs.Chains.{near_none, near_cases, joined_one, joined_back, Newly}
 use Rattle.walk_laws.specs.Walk as laws
 use Rattle.walk_laws.specs.Walk.{Table, Rules, relax, walk}

@@ -1,10 +1,10 @@
 -- Sound edges that are planted are a seed that spans the nodes, with edges of 1 to 100,000,000. Assumes nothing more.
-use Rattle.std.proofs.Common.{◌≡◌, ℕ, ◌+◌, ◌*◌, ◌<◌, ◌≤◌, ◌⊎◌, List, sym, refl, ap, ◌∙◌, subst, inl, inr, arith}
+use Rattle.std.proofs.Common.{ℕ, ◌*◌, ◌<◌, ◌≤◌, List, sym, subst, inl, inr, arith}
 use Rattle.forest.specs.declared.Edge.{Edge}
 use Rattle.forest.specs.Edges.{Near, Sound}
-use Rattle.forest.specs.Growth.{Least, Grows, Planted}
+use Rattle.forest.specs.Growth.{Grows, Planted}
 use Rattle.forest.specs.Growth.Grows.{bare, grown}
-use Rattle.forest.specs.Rooted.{Forest, none, kid, wire_of}
+use Rattle.forest.specs.Rooted.{Forest, wire_of}
 use Rattle.forest.proofs.Accepted.{accepted, accepted_good}
 use Rattle.walk_laws.specs.Promise.{Branch, Spanning}
 use Rattle.walk_laws.proofs.Bounds.{way_fits}

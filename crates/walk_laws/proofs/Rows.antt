@@ -1,5 +1,5 @@
 -- A sum over the numbers below n as a sum over a tree on the nodes below n. Assumes ranks.
-use Rattle.std.proofs.Common.{◌≡◌, ℕ, zero, suc, ◌+◌, ◌*◌, ◌<◌, ◌≤◌, cond, eqb, ◌⊎◌, sym, refl, ap, ◌∙◌, subst, inl, inr, arith}
+use Rattle.std.proofs.Common.{◌≡◌, ℕ, ◌+◌, ◌<◌, ◌≤◌, cond, eqb, ◌⊎◌, sym, refl, ap, ◌∙◌, inl, inr, arith}
 use Rattle.std.proofs.lemmas.Bool.{cases_eq, cond-true, cond-false, eq-eqb, ne_eqb}
 use Rattle.forest.specs.Rooted.{Forest, none, kid, Ranked, In, here, under, beside}
 use Rattle.walk_laws.specs.Promise.{sum_to, Spanning}

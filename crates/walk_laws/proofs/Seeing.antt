@@ -1,11 +1,11 @@
 -- The edges of a seed are the branches of the forest that it is seen from the driver, and no others. Assumes accepted edges.
-use Rattle.std.proofs.Common.{◌≡◌, ℕ, ◌+◌, ◌<◌, ◌≤◌, ◌⊎◌, List, sym, refl, ap, ◌∙◌, subst, inl, inr, ⊎_elim, arith}
+use Rattle.std.proofs.Common.{◌≡◌, ℕ, ◌<◌, ◌≤◌, ◌⊎◌, List, sym, refl, subst, inl, inr, ⊎_elim, arith}
 use Rattle.std.proofs.lemmas.Bool.{cases_eq, cases_order}
 use Rattle.forest.specs.declared.Edge.{Edge}
 use Rattle.forest.specs.Edges.{Near, Sound}
-use Rattle.forest.specs.Growth.{Least, Grows, Planted}
+use Rattle.forest.specs.Growth.{Grows, Planted}
 use Rattle.forest.specs.Growth.Grows.{bare, grown}
-use Rattle.forest.specs.Rooted.{Forest, none, kid, In, here, under, beside}
+use Rattle.forest.specs.Rooted.{Forest, In, here, under, beside}
 use Rattle.forest.proofs.Accepted.{Accepted, accepted, near_other}
 use Rattle.forest.proofs.Chains.{near_back}
 use Rattle.forest.proofs.Nearest.{grows_only, near_length}

@@ -1,10 +1,10 @@
 -- A seed whose own paths keep the allowance: the walk marks each node with its path and its parent in the seed. Assumes ranks and edges of length at least 1.
-use Rattle.std.proofs.Common.{◌≡◌, ℕ, ◌+◌, ◌*◌, ◌<◌, ◌≤◌, Bool, true, false, cond, ◌&&◌, ltb, ◌⊎◌, Some, None, Option, sym, refl, ap, ◌∙◌, subst, inl, inr, arith}
+use Rattle.std.proofs.Common.{◌≡◌, ℕ, ◌+◌, ◌*◌, ◌<◌, ◌≤◌, true, false, ltb, ◌⊎◌, Some, sym, refl, ap, ◌∙◌, inl, inr, arith}
 use Rattle.std.proofs.lemmas.Bool.{cases_eq, ltb-true, lt-ltb, and_parts, and_from}
-use Rattle.forest.specs.Rooted.{Forest, none, kid, Ranked, wire_of}
-use Rattle.walk_laws.specs.Walk.{Mark, Table, Rules, is_a_sink, hung, blank, relax, walk}
+use Rattle.forest.specs.Rooted.{Forest, none, kid, Ranked}
+use Rattle.walk_laws.specs.Walk.{Table, Rules, is_a_sink, hung, blank, relax, walk}
 use Rattle.walk_laws.specs.Promise.{Branch, Path, Sink}
-use Rattle.walk_laws.proofs.Steps.{some_inj, Took, Kept, relax_at, relax_other, Within, Breaks, down, down_other, down_at}
+use Rattle.walk_laws.proofs.Steps.{Took, Kept, relax_at, relax_other, Within, Breaks, down, down_other, down_at}
 use Rattle.walk_laws.proofs.Branches.{ranked_up, branch_rank}
 
 pub sink_from : (R : Rules) (v : ℕ) → is_a_sink R v ≡ true → Sink R v

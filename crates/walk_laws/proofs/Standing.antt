@@ -1,5 +1,5 @@
 -- What holds at every moment of the walk, kept by each step down and each step up. Assumes a seed that is a tree.
-use Rattle.std.proofs.Common.{◌≡◌, ℕ, ◌+◌, ◌*◌, ◌<◌, ◌≤◌, Bool, true, false, cond, ◌⊎◌, Some, None, Option, sym, refl, ap, ◌∙◌, subst, inl, inr, le_refl, add-mul, mul-le-mul_left, mul-add, arith}
+use Rattle.std.proofs.Common.{◌≡◌, ℕ, ◌+◌, ◌*◌, ◌<◌, ◌≤◌, Bool, true, false, cond, ◌⊎◌, Some, sym, refl, ap, ◌∙◌, subst, inl, inr, le_refl, add-mul, mul-le-mul_left, mul-add, arith}
 use mathlib.Core.Path.{fun_ext}
 use Rattle.std.proofs.lemmas.Bool.{cases_eq, cases_lt}
 use Rattle.forest.specs.Rooted.{Forest, none, kid, Ranked, wire_of}

@@ -1,7 +1,7 @@
 -- What one step of the walk does to the table: the mark that it changes, by cases, and the others. Assumes that the node that relaxes has an estimate.
 use Rattle.std.proofs.Common.{◌≡◌, ℕ, ◌+◌, ◌*◌, ◌<◌, ◌≤◌, Bool, true, false, cond, ◌&&◌, eqb, ltb, ◌⊎◌, Some, None, Option, sym, refl, ap, ◌∙◌, subst, inl, inr, arith}
 use Rattle.std.proofs.lemmas.Bool.{cond-true, cond-false, cond_both, eq-eqb, ne_eqb, eqb-true, ltb-true, ltb-false, and_parts, and_cases, both_ways}
-use Rattle.walk_laws.specs.Walk.{Mark, Table, Rules, is_a_sink, hung, blank, home, start, put, offered_at, offered, relaxed, relax, entered, enter}
+use Rattle.walk_laws.specs.Walk.{Mark, Table, Rules, is_a_sink, hung, blank, home, start, put, offered, relaxed, relax, entered, enter}
 
 pub some_inj : {a b : ℕ} → Some a ≡ Some b → a ≡ b
 some_inj h = cc

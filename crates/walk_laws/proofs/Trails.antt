@@ -1,5 +1,5 @@
 -- The walk by single steps. Assumes nothing.
-use Rattle.std.proofs.Common.{◌≡◌, ℕ, ◌+◌, ◌*◌, ◌<◌, ◌≤◌, refl, arith}
+use Rattle.std.proofs.Common.{◌≡◌, ℕ, ◌+◌, ◌*◌, ◌<◌, refl, arith}
 use Rattle.forest.specs.Rooted.{Forest, none, kid, Ranked, wire_of, size_of}
 use Rattle.walk_laws.specs.Walk.{Table, Rules, relax, walk}
 use Rattle.walk_laws.specs.Trail.{Trail, arrived, back, finish, steps_left, way_left}

@@ -1,10 +1,10 @@
 -- The wire of the nodes that hang on a neighbour: each edge of the seed serves at most one of its ends. Assumes that no two nodes hang on each other.
-use Rattle.std.proofs.Common.{◌≡◌, ℕ, zero, suc, ◌+◌, ◌*◌, ◌<◌, ◌≤◌, Bool, true, false, cond, ◌||◌, eqb, ◌⊎◌, sym, refl, ap, ◌∙◌, subst, inl, inr, arith}
-use Rattle.std.proofs.lemmas.Bool.{cases_Bool, cond-true, cond-false, eq-eqb, ne_eqb, eqb-true, eqb-false, or_parts}
+use Rattle.std.proofs.Common.{◌≡◌, ℕ, ◌+◌, ◌<◌, ◌≤◌, true, false, cond, ◌||◌, eqb, ◌⊎◌, sym, refl, ap, ◌∙◌, inl, inr, arith}
+use Rattle.std.proofs.lemmas.Bool.{cases_Bool, cond-true, cond-false, eq-eqb, eqb-true, or_parts}
 use Rattle.forest.specs.Rooted.{Forest, none, kid, Ranked, wire_of}
 use Rattle.walk_laws.specs.Walk.{Table}
 use Rattle.walk_laws.specs.Promise.{sum_to, Branch, wire_at}
-use Rattle.walk_laws.proofs.Sums.{sum_add, sum_none, sum_one, sum_le}
+use Rattle.walk_laws.proofs.Sums.{sum_add, sum_none, sum_one}
 
 -- The node x takes an edge of length l to z, if it hangs there.
 abbrev pub hook : Table → (x z l : ℕ) → ℕ

@@ -1,10 +1,10 @@
 -- What the walk guarantees over every seed that is a tree on the nodes below n. Assumes edges of length at least 1 and q at least 1.
-use Rattle.std.specs.Prelude.{◌≡◌, ℕ, zero, suc, ◌+◌, ◌*◌, ◌<◌, ◌≤◌, Bool, true, false, cond, ◌||◌, ◌⊎◌, List, Some, None, Option, ◌==◌, ◌≢◌}
+use Rattle.std.specs.Prelude.{◌≡◌, ℕ, zero, suc, ◌+◌, ◌*◌, ◌<◌, ◌≤◌, true, false, cond, ◌||◌, ◌⊎◌, List, Some, ◌==◌, ◌≢◌}
 use Rattle.forest.specs.Edges.{Near}
 use Rattle.forest.specs.Growth.{Grows}
 use Rattle.forest.specs.Rooted.{Forest, none, kid, wire_of, Ranked, In}
 use Rattle.forest.specs.declared.Edge.{Edge}
-use Rattle.walk_laws.specs.Walk.{Mark, Table, Rules, start, hung, walk}
+use Rattle.walk_laws.specs.Walk.{Table, Rules, start, hung, walk}
 
 -- In the forest that hangs on v, the node w has the parent u, over an edge of length l.
 abbrev pub Branch : (v : ℕ) → Forest → (u w l : ℕ) → Type 0

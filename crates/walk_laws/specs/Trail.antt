@@ -1,6 +1,6 @@
 -- The walk cut into single steps: what is left to do at any moment. Assumes nothing.
 use Rattle.std.specs.Prelude.{ℕ, ◌+◌, ◌*◌}
-use Rattle.forest.specs.Rooted.{Forest, none, kid, wire_of, size_of}
+use Rattle.forest.specs.Rooted.{Forest, wire_of, size_of}
 use Rattle.walk_laws.specs.Walk.{Rules, Table, relax, walk}
 
 -- The way back from a node to the driver: the node's parent v, the length of the edge to it, the children of v that are still to come, and the way back from v.

@@ -72,7 +72,7 @@ impl Board {
     ) -> u64
         requires stands { self.old.built ≡ true }
         requires joinable { Joinable (rows_of self.old.tree) members.now }
-        ensures joins { Joins (reach_of S.Space space.now) (join_of S.Space S.Joining space.now) (rows_of self.old.tree) members.now (rows_of self.new.tree) }
+        ensures joins { Joins (reach_of S.Space space.now) (join_of S.Space S.Joining.own space.now) (rows_of self.old.tree) members.now (rows_of self.new.tree) }
         ensures wire { result ≡ wire_of (rows_of self.new.tree) }
         ensures seen { seen self.new ≡ with_tree (seen self.old) (rows_of self.new.tree) }
     {

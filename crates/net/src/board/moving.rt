@@ -25,7 +25,7 @@ impl Board {
     /// there is no room for another row.
     pub(crate) fn share<S: Joining>(&mut self, space: &S, sharer: &mut Sharer) -> Sharing
         requires { self.old.built ≡ true }
-        ensures moved { Shared S.Space S.Joining space.now self.old.tree result self.new.tree }
+        ensures moved { Shared S.Space S.Joining.own space.now self.old.tree result self.new.tree }
         ensures seen { seen self.new ≡ with_tree (seen self.old) (rows_of self.new.tree) }
         ensures same { self.new.tree ≡ self.old.tree → self.new ≡ self.old }
     {

@@ -29,12 +29,12 @@ impl<S: Space> Net<S> {
 impl<S: Joining> Net<S> {
     /// Builds the straight tree of the seed and joins its breakpoints pair after pair, in place of a tree that stands, and answers the wire.
     pub fn joined(&mut self) -> Result<u64, Fault>
-        ensures always { JoinedAnswer (cut (joining S.Space S.Joining self.old.space)) (seen self.old.board) (seen self.new.board) result }
+        ensures always { JoinedAnswer (cut (joining S.Space S.Joining.own self.old.space)) (seen self.old.board) (seen self.new.board) result }
         ensures unchanged { is_err result ≡ true → self.new ≡ self.old }
-        ensures answer { Whole S.Space self.old.space (seen self.old.board) → JoinAnswers (joining S.Space S.Joining self.old.space) (seen self.old.board) (seen self.new.board) JoinedCall result × Whole S.Space self.old.space (seen self.new.board) }
-        ensures bounds { Whole S.Space self.old.space (seen self.old.board) → is_ok result ≡ true → Bounds (joining S.Space S.Joining self.old.space) (seen self.old.board) (seen self.new.board) }
-        ensures spared { Whole S.Space self.old.space (seen self.old.board) → is_ok result ≡ true → EdgeForEdge (joining S.Space S.Joining self.old.space) (seen self.old.board) (seen self.new.board) }
-        ensures shorter { Whole S.Space self.old.space (seen self.old.board) → is_ok result ≡ true → NoMoreThanStraight (joining S.Space S.Joining self.old.space) (seen self.old.board) (seen self.new.board) }
+        ensures answer { Whole S.Space self.old.space (seen self.old.board) → JoinAnswers (joining S.Space S.Joining.own self.old.space) (seen self.old.board) (seen self.new.board) JoinedCall result × Whole S.Space self.old.space (seen self.new.board) }
+        ensures bounds { Whole S.Space self.old.space (seen self.old.board) → is_ok result ≡ true → Bounds (joining S.Space S.Joining.own self.old.space) (seen self.old.board) (seen self.new.board) }
+        ensures spared { Whole S.Space self.old.space (seen self.old.board) → is_ok result ≡ true → EdgeForEdge (joining S.Space S.Joining.own self.old.space) (seen self.old.board) (seen self.new.board) }
+        ensures shorter { Whole S.Space self.old.space (seen self.old.board) → is_ok result ≡ true → NoMoreThanStraight (joining S.Space S.Joining.own self.old.space) (seen self.old.board) (seen self.new.board) }
         ensures stays { self.new.space ≡ self.old.space }
     {
         let allowance = self.board.ready()?;

@@ -33,10 +33,10 @@ impl<S: Space> Net<S> {
 impl<S: Joining> Net<S> {
     /// Makes the best share move of the tree and answers what it saves.
     pub fn share(&mut self) -> Result<u64, Fault>
-        ensures always { ShareAnswer (cut (joining S.Space S.Joining self.old.space)) (seen self.old.board) (seen self.new.board) result }
+        ensures always { ShareAnswer (cut (joining S.Space S.Joining.own self.old.space)) (seen self.old.board) (seen self.new.board) result }
         ensures unchanged { is_err result ≡ true → self.new.board ≡ self.old.board }
         ensures untouched { result ≡ Err NoTree → self.new ≡ self.old }
-        ensures answer { Whole S.Space self.old.space (seen self.old.board) → JoinAnswers (joining S.Space S.Joining self.old.space) (seen self.old.board) (seen self.new.board) ShareCall result × Whole S.Space self.old.space (seen self.new.board) }
+        ensures answer { Whole S.Space self.old.space (seen self.old.board) → JoinAnswers (joining S.Space S.Joining.own self.old.space) (seen self.old.board) (seen self.new.board) ShareCall result × Whole S.Space self.old.space (seen self.new.board) }
         ensures stays { self.new.space ≡ self.old.space }
     {
         if !self.board.built() {
