@@ -1,13 +1,13 @@
 -- Each row of the table holds: both sides compute. Assumes nothing.
 use Rattle.std.proofs.Common.{refl}
-use Rattle.std.specs.List.{AllByRecursion as All}
+use Rattle.std.specs.List.{AllByRecursion}
 use Rattle.space.specs.Shapes.{root_from, root_above}
 use Rattle.walk_laws.specs.Walk.{walk}
 use Rattle.cases.specs.Table.{Holds, table}
 use Rattle.cases.proofs.Square.{square_spans}
 use Rattle.cases.proofs.Walks.{corner_walks, fork_walks, square_walks}
 
-pub rows : All Holds table
+pub rows : AllByRecursion Holds table
 unfolding root_above root_from walk
 rows = (
   refl,

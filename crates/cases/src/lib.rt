@@ -3,7 +3,7 @@
 #![tactic(auto)]
 
 ghost use Rattle.std.specs.Prelude.{◌≡◌, length};
-ghost use Rattle.std.specs.List.{AllByRecursion as All};
+ghost use Rattle.std.specs.List.{AllByRecursion};
 ghost use Rattle.cases.specs.Table.{Holds, table};
 
 #[cfg(test)]
@@ -11,7 +11,7 @@ mod tests;
 
 /// Every row of the table in `specs/Table.antt` holds. Answers how many rows there are.
 pub fn worked_cases() -> usize
-    ensures every { All Holds table }
+    ensures every { AllByRecursion Holds table }
     ensures count { result ≡ length table }
 {
     13

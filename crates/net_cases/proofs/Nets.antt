@@ -1,6 +1,6 @@
 -- The rows of the table on the calls of a net. Assumes nothing.
 use Rattle.std.proofs.Common.{◌≡◌, ℕ, ◌+◌, true, false, ltb, ◌⊎◌, List, [], ◌∷◌, ◌++◌, length, sym, refl, ap, ◌∙◌, subst, inl, inr, ⊎_elim, arith}
-use Rattle.std.specs.List.{AllByRecursion as All}
+use Rattle.std.specs.List.{AllByRecursion}
 use Rattle.std.proofs.lemmas.Bool.{ltb-true}
 use Rattle.build_laws.specs.Joining.{Farthest, Joins, PairOf, far_of, meet_group, meet_row}
 use Rattle.build_laws.specs.Joining.Joins.{done, join}
@@ -174,6 +174,6 @@ lift_takes = pins_told (on_lift 6400000) fresh (origin ∷ []) [] (seed []) refl
 lift_refuses : Follows (on_lift 6400001) fresh (step (Wire (Pin origin)) (refused 1) ∷ []) (seed [])
 lift_refuses = wide_told (on_lift 6400001) fresh origin [] (seed []) refl (refl, refl)
 
-pub nets : All Holds table
+pub nets : AllByRecursion Holds table
 unfolding walk
 nets = (corner_straight, (fork_straight, (fork_together, (lift_takes, (lift_refuses, (square_straight 2 1 square_rows refl refl refl, (square_straight 199 100 square_broken refl refl refl, (square_span, tt))))))))

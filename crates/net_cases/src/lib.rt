@@ -3,12 +3,12 @@
 #![tactic(auto)]
 
 ghost use Rattle.std.specs.Prelude.{◌≡◌, length};
-ghost use Rattle.std.specs.List.{AllByRecursion as All};
+ghost use Rattle.std.specs.List.{AllByRecursion};
 ghost use Rattle.net_cases.specs.Table.{Holds, table};
 
 /// Every row of the table in `specs/Table.antt` holds. Answers how many rows there are.
 pub fn worked_nets() -> usize
-    ensures every { All Holds table }
+    ensures every { AllByRecursion Holds table }
     ensures count { result ≡ length table }
 {
     8
