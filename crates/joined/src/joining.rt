@@ -92,7 +92,7 @@ impl Joiner {
     /// Makes the members the group and finds the first pair of each.
     fn begin<S: Joining>(&mut self, space: &S, table: &Table, members: &[usize])
         requires { Joinable (rows_of table.now) members.now }
-        ensures standing { Standing (reach_of S.Space space.now) (join_of S.Space S.Joining space.now) (rows_of table.now) self.new.group.items self.new.partners.items }
+        ensures standing { Standing (reach_of S.Space space.now) (join_of S.Space S.Joining.own space.now) (rows_of table.now) self.new.group.items self.new.partners.items }
         ensures members { self.new.group.items ≡ members.now }
     {
         fill(&mut self.group, members);
@@ -107,8 +107,8 @@ impl Joiner {
 
     /// Joins the first pair of all, and answers whether there is one whose meet is not the driver's own spot.
     fn step<S: Joining>(&mut self, space: &S, table: &mut Table) -> bool
-        requires { Standing (reach_of S.Space space.now) (join_of S.Space S.Joining space.now) (rows_of table.old) self.old.group.items self.old.partners.items }
-        ensures { Stepped (reach_of S.Space space.now) (join_of S.Space S.Joining space.now) (rows_of table.old) self.old.group.items result (rows_of table.new) self.new.group.items self.new.partners.items }
+        requires { Standing (reach_of S.Space space.now) (join_of S.Space S.Joining.own space.now) (rows_of table.old) self.old.group.items self.old.partners.items }
+        ensures { Stepped (reach_of S.Space space.now) (join_of S.Space S.Joining.own space.now) (rows_of table.old) self.old.group.items result (rows_of table.new) self.new.group.items self.new.partners.items }
     {
         let Some(pair) = first(self.partners.as_slice()) else {
             return false;
@@ -138,9 +138,9 @@ impl Joiner {
 
     /// Joins pair after pair, as long as there is one and for at most so many turns as the group has members.
     fn run<S: Joining>(&mut self, space: &S, table: &mut Table, turns: usize)
-        requires standing { Standing (reach_of S.Space space.now) (join_of S.Space S.Joining space.now) (rows_of table.old) self.old.group.items self.old.partners.items }
+        requires standing { Standing (reach_of S.Space space.now) (join_of S.Space S.Joining.own space.now) (rows_of table.old) self.old.group.items self.old.partners.items }
         requires turns { length self.old.group.items ≤ turns }
-        ensures { Joins (reach_of S.Space space.now) (join_of S.Space S.Joining space.now) (rows_of table.old) self.old.group.items (rows_of table.new) }
+        ensures { Joins (reach_of S.Space space.now) (join_of S.Space S.Joining.own space.now) (rows_of table.old) self.old.group.items (rows_of table.new) }
     {
         for turn in 0..turns {
             if !self.step(space, table) {
@@ -159,7 +159,7 @@ impl Joiner {
         table: &mut Table,
         members: &[usize],
     ) -> Option<u64>
-        ensures { JoinedBy S.Space S.Joining space.now table.old members.now result table.new }
+        ensures { JoinedBy S.Space S.Joining.own space.now table.old members.now result table.new }
     {
         if !joinable(table, members) {
             return None;

@@ -14,7 +14,7 @@ use tree::{Table, reach};
 
 /// The pair of two rows.
 fn pair<S: Joining>(space: &S, table: &Table, a: usize, b: usize) -> Pair
-    ensures { result ≡ pair_of (reach_of S.Space space.now) (join_of S.Space S.Joining space.now) (rows_of table.now) a b }
+    ensures { result ≡ pair_of (reach_of S.Space space.now) (join_of S.Space S.Joining.own space.now) (rows_of table.now) a b }
 {
     let driver = table.at(0).spot;
     let meet = join(space, driver, table.at(a).spot, table.at(b).spot);
@@ -32,7 +32,7 @@ fn first_of<S: Joining>(
 ) -> Option<Pair>
     requires few { length group.now ≤ 768 }
     requires room { 768 ≤ vec_capacity candidates.old }
-    ensures best { BestOf pair_before (Partner (reach_of S.Space space.now) (join_of S.Space S.Joining space.now) (rows_of table.now) group.now b) result }
+    ensures best { BestOf pair_before (Partner (reach_of S.Space space.now) (join_of S.Space S.Joining.own space.now) (rows_of table.now) group.now b) result }
     ensures room { vec_capacity candidates.new ≡ vec_capacity candidates.old }
 {
     candidates.clear();
@@ -56,7 +56,7 @@ pub(crate) fn start<S: Joining>(
     requires few { length group.now ≤ 768 }
     requires partners { 768 ≤ vec_capacity partners.old }
     requires candidates { 768 ≤ vec_capacity candidates.old }
-    ensures firsts { Firsts (reach_of S.Space space.now) (join_of S.Space S.Joining space.now) (rows_of table.now) group.now partners.new.items }
+    ensures firsts { Firsts (reach_of S.Space space.now) (join_of S.Space S.Joining.own space.now) (rows_of table.now) group.now partners.new.items }
     ensures few { length partners.new.items ≤ length group.now }
     ensures partners { vec_capacity partners.new ≡ vec_capacity partners.old }
     ensures candidates { vec_capacity candidates.new ≡ vec_capacity candidates.old }
@@ -81,8 +81,8 @@ fn again<S: Joining>(
 ) -> Option<Pair>
     requires few { length group.now ≤ 768 }
     requires room { 768 ≤ vec_capacity candidates.old }
-    requires stale { Stale (reach_of S.Space space.now) (join_of S.Space S.Joining space.now) (rows_of table.now) group.now a b old }
-    ensures again { Again (reach_of S.Space space.now) (join_of S.Space S.Joining space.now) (rows_of table.now) group.now a b old result }
+    requires stale { Stale (reach_of S.Space space.now) (join_of S.Space S.Joining.own space.now) (rows_of table.now) group.now a b old }
+    ensures again { Again (reach_of S.Space space.now) (join_of S.Space S.Joining.own space.now) (rows_of table.now) group.now a b old result }
     ensures room { vec_capacity candidates.new ≡ vec_capacity candidates.old }
 {
     if old.b == a || old.b == b {
@@ -109,8 +109,8 @@ pub(crate) fn renew<S: Joining>(
     requires few { length group.now ≤ 768 }
     requires partners { 768 ≤ vec_capacity partners.old }
     requires candidates { 768 ≤ vec_capacity candidates.old }
-    requires ready { Ready (reach_of S.Space space.now) (join_of S.Space S.Joining space.now) (rows_of table.now) group.now a b new olds.now }
-    ensures firsts { Firsts (reach_of S.Space space.now) (join_of S.Space S.Joining space.now) (rows_of table.now) group.now partners.new.items }
+    requires ready { Ready (reach_of S.Space space.now) (join_of S.Space S.Joining.own space.now) (rows_of table.now) group.now a b new olds.now }
+    ensures firsts { Firsts (reach_of S.Space space.now) (join_of S.Space S.Joining.own space.now) (rows_of table.now) group.now partners.new.items }
     ensures few { length partners.new.items ≤ length olds.now + 1 }
     ensures partners { vec_capacity partners.new ≡ vec_capacity partners.old }
     ensures candidates { vec_capacity candidates.new ≡ vec_capacity candidates.old }

@@ -78,9 +78,9 @@ renew-requires g c =
     c.as_slice-2.ensures.value ∙ c.push_reserved.ensures.items ∙ ap (λ xs. xs ++ c.in-Some-part.new ∷ []) c.leave.ensures.items in
     record {
       few = omega (arith, shorter_at d j rows (tree_of t) group F c.requires p.a p.b best.0.pair (rows_of c.part.new.table) left c.in-Some-part.new parted.2 parted.1 e, c.requires.room);
-      partners = omega (arith, ap vec_capacity c.swap.ensures.x-after, c.args.self.now.other);
+      partners = omega (arith, ap vec_capacity c.swap.ensures.x_after, c.args.self.now.other);
       candidates = c.args.self.now.wide;
-      ready = ready_at d j rows (tree_of t) group F c.requires p.a p.b best.0.pair (rows_of c.part.new.table) left c.in-Some-part.new parted.2 parted.1 e c.as_slice-3.result.now (c.as_slice-3.ensures.value ∙ ap vec_items c.swap.ensures.y-after);
+      ready = ready_at d j rows (tree_of t) group F c.requires p.a p.b best.0.pair (rows_of c.part.new.table) left c.in-Some-part.new parted.2 parted.1 e c.as_slice-3.result.now (c.as_slice-3.ensures.value ∙ ap vec_items c.swap.ensures.y_after);
     }
 
 pub returns : goal.returns
@@ -103,6 +103,6 @@ returns g c =
     let far : 0 < far_of d j rows p.a p.b = omega (arith, best.0.long, c.if-pair-eq0.false) in
     stepped_at d j rows (tree_of t) group F c.requires p.a p.b best.0.pair (rows_of c.part.new.table) left c.in-Some-part.new parted.2 parted.1 e G
     (subst Q c.as_slice-2.ensures.value c.renew.ensures.firsts)
-    (omega (arith, c.renew.ensures.few, ap length (c.as_slice-3.ensures.value ∙ ap vec_items c.swap.ensures.y-after)))
+    (omega (arith, c.renew.ensures.few, ap length (c.as_slice-3.ensures.value ∙ ap vec_items c.swap.ensures.y_after)))
     (best_farthest d j rows group p best)
     far
