@@ -10,6 +10,6 @@ pub returns : goal.returns
 returns g c =
     let G = g.S.Space in
     let s = c.args.space in
-    let e = c.in-ok-board.ensures in
+    let e = c.in_ok-board.ensures in
     let P : State → Type 0 = λ n. Whole G s n in
     (e, refl, subst P (sym e) (fresh_tied (wiring G s) (wiring_keeps G s (g.met.S.Space.metric s))))

@@ -14,8 +14,8 @@ pub returns : goal.returns
 returns g c =
     let b = c.args.self.now.board in
     let s = c.args.self.now.space in
-    let a = c.in-ok-allowance.allowance in
-    let r = c.in-ok-allowance.ensures in
+    let a = c.in_ok-allowance.allowance in
+    let r = c.in_ok-allowance.ensures in
     let rows = rows_of c.straight.new.self.tree in
     let t = c.straight.ensures.straight in
     let m = seen c.straight.new.self in
