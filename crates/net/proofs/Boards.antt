@@ -1,5 +1,5 @@
 -- Boards with equal parts are equal, and what the first spots of a board span. Assumes nothing.
-use Rattle.std.proofs.Common.{◌≡◌, ℕ, ◌+◌, ◌<◌, ◌≤◌, true, List, length, take, vec_items, vec_capacity, sym, ap, ◌∙◌, subst, arith, length-take, get_or-take}
+use Rattle.std.proofs.Common.{◌≡◌, ℕ, ◌+◌, ◌<◌, ◌≤◌, true, List, length, take, vec_items, vec_capacity, ap, ◌∙◌, subst, arith, length-take, get_or-take}
 use mathlib.Core.HLevel.{is_prop→PathP, →_prop}
 use native.Mathlib.Bridge.{le_prop}
 use native.Mathlib.Nat.{ℕ_set}
@@ -7,7 +7,7 @@ use Rattle.forest.specs.declared.Edge.{Edge}
 use Rattle.seed.specs.Seeds.{nodes_of}
 use Rattle.space.specs.declared.Space.{Ghosts}
 use Rattle.space.specs.declared.spot.Spot.{Spot}
-use Rattle.span.specs.Lengths.{length_of, lengths, origin, spot_of}
+use Rattle.span.specs.Lengths.{length_of, lengths, spot_of}
 use Rattle.span.specs.Spanning.{Spanning}
 use Rattle.span.proofs.Steps.{spanning_agrees}
 use Rattle.tree.specs.Tables.{rows_of}

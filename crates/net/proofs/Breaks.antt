@@ -22,7 +22,7 @@ use Rattle.straight.proofs.Mixed.{among_breakpoints}
 use Rattle.tree.specs.Hooks.{reach_of}
 use Rattle.tree.specs.Tables.{rows_of}
 use Rattle.tree.specs.declared.table.Table.{Table as Tree-table}
-use Rattle.tree_laws.specs.Trees.{Child, add, hang, spot_of, up}
+use Rattle.tree_laws.specs.Trees.{add, hang, spot_of, up}
 use Rattle.tree_laws.specs.declared.Row.{Row}
 use Rattle.tree_laws.proofs.Adding.{add_length}
 use Rattle.tree_laws.proofs.Hanging.{hang_length}

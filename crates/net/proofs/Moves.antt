@@ -1,5 +1,5 @@
 -- A tree that stands, and what a share move makes of it. Assumes nothing.
-use Rattle.std.proofs.Common.{◌≡◌, ℕ, ◌+◌, ◌<◌, ◌≤◌, Bool, true, List, length, Some, None, Ok, Option, sym, refl, ap, ◌∙◌, arith}
+use Rattle.std.proofs.Common.{◌≡◌, ℕ, ◌+◌, ◌≤◌, true, List, length, Some, None, Ok, Option, sym, ap, ◌∙◌, arith}
 use Rattle.net_laws.specs.Answers.{ShareAnswer, Stands}
 use Rattle.net_laws.specs.States.{with_tree}
 use Rattle.net_laws.specs.Worlds.{cut, joining}

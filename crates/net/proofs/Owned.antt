@@ -1,11 +1,11 @@
 -- On a net that is tied to its space each call answers by the space's own distances and meets, and leaves the net tied. Assumes nothing.
-use Rattle.std.proofs.Common.{◌≡◌, ℕ, ◌+◌, ◌≤◌, min, max, true, Ok, Err, Result, sym, refl, ap, ◌∙◌, subst, arith}
+use Rattle.std.proofs.Common.{◌≡◌, ℕ, ◌+◌, ◌≤◌, true, Ok, Err, Result, refl, arith}
 use Rattle.space.specs.Laws.{Meets, Metric, limit}
 use Rattle.space.specs.declared.Joining.{Ghosts as JoinGhosts}
 use Rattle.space.specs.declared.Space.{Ghosts}
 use Rattle.space.specs.declared.spot.Spot.{Spot}
 use Rattle.span.specs.Lengths.{length_of}
-use Rattle.net_laws.specs.Answers.{AllowAnswer, Answers, EdgeAnswer, HookAnswer, JoinAnswers, JoinedAnswer, PinAnswer, ShareAnswer, SpanBy, SteinerAnswer, StraightAnswer, Unchanged, UnseedAnswer, World}
+use Rattle.net_laws.specs.Answers.{AllowAnswer, Answers, EdgeAnswer, HookAnswer, JoinAnswers, JoinedAnswer, PinAnswer, ShareAnswer, SpanBy, SteinerAnswer, StraightAnswer, Unchanged, World}
 use Rattle.net_laws.specs.States.{State, unseeded}
 use Rattle.net_laws.specs.Worlds.{Keeps, Whole, cut, joining, wiring}
 use Rattle.net_laws.specs.declared.call.Call.TheVariants.{Pin, Allow, Steiner, Edge, Unseed, Span, Straight, Hook}

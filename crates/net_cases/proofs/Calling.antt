@@ -22,7 +22,7 @@ use Rattle.net_laws.specs.declared.call.JoinCall.TheVariants.{Wire, Joined as Jo
 use Rattle.net_laws.specs.declared.fault.Fault.{Fault}
 use Rattle.net_laws.specs.declared.fault.Fault.TheVariants.{Space}
 use Rattle.net_laws.specs.declared.fault.SpaceFault.TheVariants.{TooWide}
-use Rattle.net_cases.specs.Calls.{Ending, Follows, Reply, Says, Step, allowing, answers, chain_from, pins_from, refused, seeded, step}
+use Rattle.net_cases.specs.Calls.{Ending, Follows, Says, Step, allowing, answers, chain_from, pins_from, refused, seeded, step}
 
 -- a refusal is not by a question that holds
 past : {Q N X : Type 0} → Q → ((Q → ⊥) × N) ⊎ (Q × X) → X

@@ -1,5 +1,5 @@
 -- A net and a log leave one net: each call's answer says which. Assumes nothing.
-use Rattle.std.proofs.Common.{◌≡◌, ℕ, ◌<◌, Bool, true, false, List, [], ◌∷◌, length, Some, Ok, Err, Result, sym, refl, ap, ◌∙◌, subst, arith}
+use Rattle.std.proofs.Common.{◌≡◌, ℕ, Bool, List, length, Some, Ok, Err, Result, sym, refl, ap, ◌∙◌, subst, arith}
 use Rattle.build_laws.specs.Joining.{Farthest, Joins, far_of, meet_group, meet_row}
 use Rattle.build_laws.specs.Joining.Joins.{done, join}
 use Rattle.forest.specs.Rooted.{Forest}
@@ -7,13 +7,11 @@ use Rattle.joined.specs.declared.pair.Pair.{Pair}
 use Rattle.joined.specs.Orders.{pair_order}
 use Rattle.order.specs.Orders.{Order}
 use Rattle.share.specs.Shares.{shared_by}
-use Rattle.share.specs.declared.share.Share.{Share}
 use Rattle.share.specs.Moves.{share_order}
 use Rattle.space.specs.declared.spot.Spot.{Spot}
 use Rattle.span.proofs.Steps.{spanning_only}
 use Rattle.span.specs.Lengths.{spot_of as spot_at}
 use Rattle.tree.specs.Bests.{BestOf}
-use Rattle.tree.specs.declared.hook.Hook.{Hook}
 use Rattle.tree.specs.Moves.{hook_order}
 use Rattle.tree_laws.specs.Trees.{hang, spot_of}
 use Rattle.tree_laws.specs.declared.Row.{Row}
@@ -21,7 +19,7 @@ use Rattle.walk_laws.specs.Walk.{start, walk}
 use Rattle.net_laws.specs.Answers.{Hooks, JoinAnswers, JoinedTree, Shares, StraightTree, World, breakpoints, rules_of}
 use Rattle.net_laws.specs.Logs.{Log, Runs}
 use Rattle.net_laws.specs.Logs.Runs.{next, still}
-use Rattle.net_laws.specs.States.{State, fresh, with_seed, with_tree}
+use Rattle.net_laws.specs.States.{State, with_seed, with_tree}
 use Rattle.net_laws.specs.Worlds.{Keeps, Tied}
 use Rattle.net_laws.specs.declared.call.Call.TheVariants.{Pin, Allow, Steiner, Edge as EdgeOf, Unseed, Span, Straight, Hook as HookCall}
 use Rattle.net_laws.specs.declared.call.JoinCall.{JoinCall}

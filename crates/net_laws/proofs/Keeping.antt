@@ -1,25 +1,20 @@
 -- Every run on a new net keeps the guarantee. Assumes nothing.
-use Rattle.std.proofs.Common.{◌≡◌, ℕ, ◌+◌, ◌*◌, ◌<◌, ◌≤◌, Bool, true, false, ◌&&◌, ◌⊎◌, List, [], ◌∷◌, ◌++◌, length, take, is_some, Some, None, Ok, Err, Option, Result, sym, refl, ap, ◌∙◌, subst, inl, inr, ⊎_elim, append_assoc, append-nil, mul-le-mul_left, arith}
+use Rattle.std.proofs.Common.{◌≡◌, ℕ, ◌+◌, ◌*◌, ◌<◌, ◌≤◌, true, false, ◌&&◌, List, [], ◌∷◌, ◌++◌, length, take, is_some, Some, Ok, Err, Result, sym, refl, ap, ◌∙◌, subst, inl, inr, append_assoc, append-nil, mul-le-mul_left, arith}
 use Rattle.std.proofs.lemmas.List.{get_or_append_left, length_push, take_at}
-use Rattle.build_laws.specs.Joining.{Grouped, Joins, Kept}
-use Rattle.build_laws.specs.Straight.{Straight}
-use Rattle.build_laws.proofs.Joined.{joining_keeps_lem}
 use Rattle.forest.specs.Edges.{wire}
-use Rattle.forest.specs.Rooted as rooted
 use Rattle.forest.specs.declared.Edge.{Edge}
 use Rattle.forest.proofs.Accepted.{sound_none}
 use Rattle.order.proofs.Finding.{among_none}
 use Rattle.seed.specs.Seeds.{edge}
-use Rattle.space.specs.Laws.{Meets, Metric, limit}
 use Rattle.space.specs.declared.spot.Spot.{Spot}
 use Rattle.span.specs.Lengths.{origin, spot_of as spot_at}
 use Rattle.span.specs.Spanning.{Spanning}
 use Rattle.span.proofs.Steps.{spanning_agrees, spanning_only}
-use Rattle.tree_laws.specs.Trees.{Hung, Tree, length_of, path_length, row_of, spot_of, up, wire_of}
+use Rattle.tree_laws.specs.Trees.{Hung, length_of, path_length, row_of, spot_of, up, wire_of}
 use Rattle.tree_laws.specs.declared.Row.{Row}
 use Rattle.tree_laws.proofs.Ways.{hung}
-use Rattle.net_laws.specs.Answers.{Hooks, JoinAnswers, JoinedTree, Shares, StraightTree, World, breakpoints, marks_of}
-use Rattle.net_laws.specs.Guarantee.{Guarantee, Laid, NoPathGrows, OnePathWithinAllowance, Read, RunsKeep, SavingsAddUp, SinceBuild, TreeStands, WireWithinBound}
+use Rattle.net_laws.specs.Answers.{JoinAnswers, World}
+use Rattle.net_laws.specs.Guarantee.{Guarantee, Laid, NoPathGrows, OnePathWithinAllowance, Read, RunsKeep, TreeStands, WireWithinBound}
 use Rattle.net_laws.specs.Logs.{Effect, Event, Log, Runs, SeedAfter, SeedOf, allowance_after, allowance_of, effect_of, keeps, keeps_tree, nodes_of, pins_after, pins_of, points_after, points_of, saving_after, savings_of, standing, stands_after}
 use Rattle.net_laws.specs.Logs.Effect.{nothing, adds_pin, allows, adds_point, adds_edge, drops_seed, spans, builds, saves}
 use Rattle.net_laws.specs.Logs.Runs.{still, next}
@@ -33,7 +28,7 @@ use Rattle.net_laws.specs.declared.fault.Fault.{Fault}
 use Rattle.net_laws.proofs.Alone.{runs_one}
 use Rattle.net_laws.proofs.Moving.{hook_paths, hook_wire, placed_measured, share_paths, share_wire}
 use Rattle.net_laws.proofs.Sparing.{joined_within, straight_within}
-use Rattle.net_laws.proofs.Tying.{no_rows, placed_hook, placed_joined, placed_share, placed_straight, same_some, standing_narrow, standing_placed, tied_step}
+use Rattle.net_laws.proofs.Tying.{no_rows, placed_hook, placed_joined, placed_share, placed_straight, same_some, standing_narrow, tied_step}
 
 never : false ≡ true → ⊥
 never e = let z : ◌≡◌ {A = ℕ} 0 1 = cc in omega arith

@@ -1,19 +1,14 @@
 -- Joining, hook moves and share moves on rows that lie in their space: the rows lie in it again, and how paths and wire change. Assumes nothing.
-use Rattle.std.proofs.Common.{◌≡◌, ℕ, zero, suc, ◌+◌, ◌<◌, ◌≤◌, Bool, true, false, ◌⊎◌, List, [], ◌∷◌, ◌++◌, length, Some, sym, refl, ap, ◌∙◌, subst, ⊎_elim, arith}
-use Rattle.order.specs.Firsts.{Among}
-use Rattle.order.specs.Firsts.Among.{here, there}
-use Rattle.order.proofs.Finding.{among_either, among_none, among_one}
-use Rattle.build_laws.specs.Joining.{Farthest, Grouped, Joins, Kept, far_of, meet_group, meet_row}
+use Rattle.std.proofs.Common.{◌≡◌, ℕ, ◌+◌, ◌<◌, ◌≤◌, List, length, refl, ◌∙◌, arith}
+use Rattle.build_laws.specs.Joining.{Grouped, Joins, far_of}
 use Rattle.build_laws.specs.Joining.Joins.{done, join}
-use Rattle.build_laws.proofs.Joined.{first_child, joining_keeps_lem, second_child, step_grouped, step_length, step_tree}
+use Rattle.build_laws.proofs.Joined.{first_child, second_child, step_grouped}
 use Rattle.share.specs.Shares.{ShareMove, shared_by}
 use Rattle.share.specs.declared.share.Share.{Share}
 use Rattle.share.proofs.Measures.{measured_again, paths_stay, spot_kept, wire_falls}
 use Rattle.space.specs.Laws.{Meets, Metric, limit}
 use Rattle.space.specs.declared.Joining.{Ghosts as JoinGhosts}
 use Rattle.space.specs.declared.Space.{Ghosts}
-use Rattle.space.specs.declared.spot.Spot.{Spot}
-use Rattle.span.specs.Lengths.{spot_of as spot_at}
 use Rattle.tree.specs.Hooks.{HookMove, Measured}
 use Rattle.tree.specs.declared.hook.Hook.{Hook}
 use Rattle.tree.proofs.Measured.{hang_measured}
@@ -21,9 +16,9 @@ use Rattle.tree_laws.specs.Trees.{Tree, hang, path_length, spot_of, wire_of}
 use Rattle.tree_laws.specs.declared.Row.{Row}
 use Rattle.tree_laws.proofs.Hanging.{hang_length, hang_never_grows, hang_spot, hang_tree, hang_wire}
 use Rattle.tree_laws.proofs.Sharing.{between_length, between_tree}
-use Rattle.net_laws.specs.Answers.{Hooks, Shares, World}
+use Rattle.net_laws.specs.Answers.{World}
 use Rattle.net_laws.specs.States.{State}
-use Rattle.net_laws.specs.Worlds.{Keeps, Placed}
+use Rattle.net_laws.specs.Worlds.{Placed}
 
 -- ---- a world as a space
 

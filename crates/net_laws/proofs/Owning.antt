@@ -1,37 +1,28 @@
 -- On a net that is tied to its space nothing is cut: what a call answers by cut distances, it answers by the space's own. Assumes nothing.
-use Rattle.std.proofs.Common.{◌≡◌, ℕ, suc, ◌+◌, ◌<◌, ◌≤◌, min, max, Bool, true, false, ◌&&◌, ◌⊎◌, List, [], ◌∷◌, map, length, get_or, Some, None, Ok, Err, Option, Result, unwrap_or, sym, refl, ap, ◌∙◌, subst, inl, inr, ⊎_elim, arith}
-use Rattle.std.proofs.lemmas.List.{get_or-map, same_lists}
+use Rattle.std.proofs.Common.{◌≡◌, ℕ, suc, ◌<◌, ◌≤◌, max, true, ◌&&◌, List, [], ◌∷◌, map, length, get_or, Some, Ok, Err, Result, sym, refl, ap, ◌∙◌, subst, inl, inr, arith}
 use Rattle.std.proofs.lemmas.Bool.{and_from}
 use Rattle.build_laws.specs.Joining.{Grouped, Joins}
 use Rattle.build_laws.specs.Straight.{straight}
-use Rattle.forest.specs.Edges.{Joined}
-use Rattle.forest.specs.Growth.{Planted}
-use Rattle.forest.specs.declared.Edge.{Edge}
 use Rattle.joined.proofs.Owning.{own_joins}
-use Rattle.share.specs.Shares.{ShareMove, share_before, shared_by}
+use Rattle.share.specs.Shares.{ShareMove}
 use Rattle.share.proofs.Measures as sharing
 use Rattle.share.specs.declared.share.Share.{Share}
-use Rattle.space.specs.Laws.{Metric, answered, limit}
+use Rattle.space.specs.Laws.{limit}
 use Rattle.space.specs.declared.spot.Spot.{Spot}
 use Rattle.span.specs.Lengths.{origin, spot_of as spot_at}
-use Rattle.span.specs.Spanning.{Spanning}
 use Rattle.span.proofs.Steps.{spanning_agrees}
-use Rattle.tree.specs.Bests.{BestOf}
-use Rattle.tree.specs.Hooks.{HookMove, hook_before}
-use Rattle.tree.specs.declared.hook.Hook.{Hook}
 use Rattle.tree.specs.Hooks.{Measured}
 use Rattle.tree.proofs.Measured.{measured, move_cut, move_own, settled, uncut}
-use Rattle.tree_laws.specs.Trees.{hang, spot_of}
+use Rattle.tree_laws.specs.Trees.{hang}
 use Rattle.tree_laws.specs.declared.Row.{Row}
-use Rattle.walk_laws.specs.Walk.{Rules, start, walk}
+use Rattle.walk_laws.specs.Walk.{start, walk}
 use Rattle.net_laws.specs.Answers.{EdgeAnswer, HookAnswer, Hooks, JoinedAnswer, JoinedTree, PinAnswer, ShareAnswer, Shares, SpanAnswer, SpanBy, Stands, StraightAnswer, StraightTree, World, breakpoints, marks_of, rules_of}
-use Rattle.net_laws.specs.Faults.{number_of}
 use Rattle.net_laws.specs.States.{State}
 use Rattle.net_laws.specs.Worlds.{Keeps, Tied, cut}
 use Rattle.net_laws.specs.declared.fault.Fault.{Fault}
 use Rattle.net_laws.proofs.Moving.{ghosts, join_ghosts, placed_measured}
 use Rattle.net_laws.proofs.Straights.{straight_grouped}
-use Rattle.net_laws.proofs.Tying.{placed_straight, same_some, standing_narrow}
+use Rattle.net_laws.proofs.Tying.{placed_straight, standing_narrow}
 
 module _ (W : World) (laws : Keeps W) where
   -- between two admitted spots of a space that is not too wide

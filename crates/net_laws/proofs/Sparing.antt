@@ -1,8 +1,8 @@
 -- Seeds within the allowance are built edge for edge, and a joined tree has no more wire than the straight one. Assumes nothing.
-use Rattle.std.proofs.Common.{◌≡◌, ℕ, zero, suc, ◌+◌, ◌*◌, ◌<◌, ◌≤◌, Bool, true, false, List, [], ◌∷◌, ◌++◌, length, Some, Ok, sym, refl, ap, ◌∙◌, subst, append-nil, mul-le-mul_left, arith}
-use Rattle.build_laws.specs.Joining.{Grouped, Joins, Kept, PairOf}
+use Rattle.std.proofs.Common.{◌≡◌, ℕ, zero, suc, ◌+◌, ◌*◌, ◌<◌, ◌≤◌, false, List, [], ◌++◌, length, Some, Ok, sym, refl, ap, ◌∙◌, subst, mul-le-mul_left, arith}
+use Rattle.build_laws.specs.Joining.{Grouped, Joins, Kept}
 use Rattle.build_laws.specs.Joining.Joins.{done, join}
-use Rattle.build_laws.specs.Straight.{Straight, straight}
+use Rattle.build_laws.specs.Straight.{straight}
 use Rattle.build_laws.proofs.Building.{straight_length}
 use Rattle.build_laws.proofs.Joined.{joining_keeps_lem}
 use Rattle.forest.specs.Growth.{Planted}

@@ -1,7 +1,7 @@
 -- The straight tree of a net that is tied to its space: it lies in the space, and its sinks' paths are within the allowance. Assumes nothing.
-use Rattle.std.proofs.Common.{◌≡◌, ℕ, zero, suc, ◌+◌, ◌*◌, ◌<◌, ◌≤◌, Bool, true, false, cond, ◌||◌, eqb, ◌⊎◌, List, [], ◌∷◌, map, length, get_or, Some, sym, refl, ap, ◌∙◌, subst, inl, inr, ⊎_elim, arith}
+use Rattle.std.proofs.Common.{◌≡◌, ℕ, zero, suc, ◌+◌, ◌*◌, ◌<◌, ◌≤◌, Bool, true, false, cond, ◌||◌, eqb, List, length, sym, refl, ap, ◌∙◌, ⊎_elim, arith}
 use Rattle.std.proofs.lemmas.List.{get_or-map}
-use Rattle.std.proofs.lemmas.Bool.{cases_Bool, cases_eq, cond-false, cond-true, eq-eqb, ne_eqb, or_from, or_right}
+use Rattle.std.proofs.lemmas.Bool.{cases_Bool, cases_eq, cond-false, cond-true, ne_eqb, or_from, or_right}
 use Rattle.order.specs.Firsts.{Among}
 use Rattle.order.proofs.Finding.{among_either, among_none, among_one}
 use Rattle.build_laws.specs.Joining.{Grouped}
@@ -9,16 +9,15 @@ use Rattle.build_laws.specs.Straight.{Straight, straight, straight_row}
 use Rattle.build_laws.proofs.Building.{straight_length, straight_of, straight_row_lem}
 use Rattle.forest.specs.Edges.{Near}
 use Rattle.forest.specs.Growth.{Planted}
-use Rattle.forest.specs.Rooted.{Forest}
 use Rattle.forest.proofs.Accepted.{accepted, accepted_good}
 use Rattle.space.specs.Laws.{Metric, limit}
 use Rattle.space.specs.declared.spot.Spot.{Spot}
 use Rattle.span.specs.Lengths.{origin, spot_of as spot_at}
-use Rattle.tree_laws.specs.Trees.{Tree, length_of, path_length, row_of, spot_of, up, wire_of}
+use Rattle.tree_laws.specs.Trees.{length_of, path_length, row_of, spot_of, up}
 use Rattle.tree_laws.specs.declared.Row.{Row}
 use Rattle.tree_laws.proofs.Ways.{path_driver}
-use Rattle.walk_laws.specs.Promise.{Branch, Guarantee, Hangs, Spanning, Triangle}
-use Rattle.walk_laws.specs.Walk.{Rules, Table, start, walk}
+use Rattle.walk_laws.specs.Promise.{Branch, Guarantee, Spanning, Triangle}
+use Rattle.walk_laws.specs.Walk.{Rules, Table}
 use Rattle.walk_laws.proofs.Keeps.{walk_keeps_lem}
 use Rattle.walk_laws.proofs.Planting.{branch_near, planted_spans}
 use Rattle.net_laws.specs.Answers.{World, breakpoints, broken_if, marks_of, rules_of}

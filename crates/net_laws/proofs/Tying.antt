@@ -1,17 +1,16 @@
 -- Every call leaves a net tied to its space. Assumes nothing.
-use Rattle.std.proofs.Common.{◌≡◌, ℕ, suc, ◌+◌, ◌<◌, ◌≤◌, Bool, true, false, ◌⊎◌, List, [], ◌∷◌, ◌++◌, length, get_or, take, Some, None, Ok, Err, Option, Result, sym, refl, ap, ◌∙◌, subst, ⊎_elim, arith, length-take}
+use Rattle.std.proofs.Common.{◌≡◌, ℕ, suc, ◌<◌, ◌≤◌, true, List, [], ◌∷◌, ◌++◌, length, get_or, take, Some, None, Ok, Err, Result, sym, ap, ◌∙◌, subst, ⊎_elim, arith, length-take}
 use Rattle.std.proofs.lemmas.List.{get_or_append_left, get_or_push, get_or-take, length_push}
-use Rattle.std.proofs.lemmas.Bool.{cases_eq, cases_lt}
+use Rattle.std.proofs.lemmas.Bool.{cases_lt}
 use Rattle.build_laws.specs.Joining.{Grouped}
 use Rattle.forest.specs.Edges.{Joined, Sound}
-use Rattle.forest.specs.Growth.{Planted}
 use Rattle.forest.specs.declared.Edge.{Edge}
 use Rattle.forest.proofs.Accepted.{accepted, accepted_good, sound_none, sound_push, sound_wider}
 use Rattle.forest.proofs.Chains.{joined_on}
 use Rattle.order.specs.Firsts.{Among}
 use Rattle.order.proofs.Finding.{among_either, among_none, among_one}
 use Rattle.seed.specs.Seeds.{edge}
-use Rattle.space.specs.Laws.{Meets, Metric, limit}
+use Rattle.space.specs.Laws.{limit}
 use Rattle.space.specs.declared.spot.Spot.{Spot}
 use Rattle.span.specs.Lengths.{origin, spot_of as spot_at}
 use Rattle.span.specs.Spanning.{Spanning}
@@ -23,7 +22,7 @@ use Rattle.net_laws.specs.declared.call.Call.TheVariants.{Pin, Allow, Steiner, E
 use Rattle.net_laws.specs.declared.call.JoinCall.{JoinCall}
 use Rattle.net_laws.specs.declared.call.JoinCall.TheVariants.{Wire, Joined as JoinedCall, Share}
 use Rattle.net_laws.specs.declared.fault.Fault.{Fault}
-use Rattle.net_laws.proofs.Moving.{Lies, hook_lies, joins_lie, lies_placed, placed_measured, share_lies}
+use Rattle.net_laws.proofs.Moving.{hook_lies, joins_lie, lies_placed, placed_measured, share_lies}
 use Rattle.net_laws.proofs.Straights.{straight_grouped, straight_placed}
 
 pub no_rows : {X : Type 0} (x : X) → None ≡ Some x → ⊥

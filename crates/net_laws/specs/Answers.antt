@@ -1,6 +1,6 @@
 -- What each call asks, in order, and what it answers. `World` is what the space means: which spots it admits, how wide it is, the distance of
 -- two spots, and the meet of a and b seen from o. Assumes nothing.
-use Rattle.std.specs.Prelude.{◌≡◌, ℕ, zero, suc, ◌+◌, ◌-◌, ◌*◌, ◌/◌, ◌<◌, ◌≤◌, Bool, true, false, ◌⊎◌, List, [], ◌∷◌, ◌++◌, map, length, Some, None, Ok, Err, Option, Result, slice_index}
+use Rattle.std.specs.Prelude.{◌≡◌, ℕ, zero, suc, ◌+◌, ◌<◌, ◌≤◌, Bool, true, false, ◌⊎◌, List, [], ◌∷◌, ◌++◌, map, length, Some, None, Ok, Err, Result, slice_index}
 use Rattle.build_laws.specs.Joining.{Joins}
 use Rattle.build_laws.specs.Straight.{straight}
 use Rattle.forest.specs.Edges.{Joined, wire}
@@ -15,7 +15,7 @@ use Rattle.span.specs.Spanning.{Spanning}
 use Rattle.tree.specs.Bests.{BestOf}
 use Rattle.tree.specs.Hooks.{HookMove, hook_before}
 use Rattle.tree.specs.declared.hook.Hook.{Hook}
-use Rattle.tree_laws.specs.Trees.{hang, path_length, row_of, spot_of, wire_of}
+use Rattle.tree_laws.specs.Trees.{hang, spot_of, wire_of}
 use Rattle.tree_laws.specs.declared.Row.{Row}
 use Rattle.walk_laws.specs.Walk.{Rules, Table, start, walk}
 use Rattle.net_laws.specs.Faults.{number_of}

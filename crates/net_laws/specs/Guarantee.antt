@@ -1,14 +1,13 @@
 -- What holds of a new net after every list of calls. Assumes nothing.
-use Rattle.std.specs.Prelude.{◌≡◌, ℕ, ◌+◌, ◌*◌, ◌<◌, ◌≤◌, Bool, true, false, List, [], ◌∷◌, ◌++◌, length, is_some, Some, None, Ok, Option, Result, ◌≢◌}
+use Rattle.std.specs.Prelude.{◌≡◌, ℕ, ◌+◌, ◌*◌, ◌<◌, ◌≤◌, true, List, ◌∷◌, ◌++◌, length, is_some, Some, Ok, Result, ◌≢◌}
 use Rattle.forest.specs.Edges.{wire}
 use Rattle.forest.specs.declared.Edge.{Edge}
 use Rattle.space.specs.Laws.{Meets, Metric, limit}
-use Rattle.space.specs.declared.spot.Spot.{Spot}
 use Rattle.span.specs.Lengths.{spot_of as spot_at}
 use Rattle.tree_laws.specs.Trees.{Hung, length_of, path_length, row_of, spot_of, up, wire_of}
 use Rattle.tree_laws.specs.declared.Row.{Row}
 use Rattle.net_laws.specs.Answers.{World}
-use Rattle.net_laws.specs.Logs.{Effect, Event, Log, Runs, SeedOf, allowance_of, effect_of, keeps_tree, nodes_of, pins_of, savings_of, standing}
+use Rattle.net_laws.specs.Logs.{Event, Log, Runs, SeedOf, allowance_of, effect_of, keeps_tree, nodes_of, pins_of, savings_of, standing}
 use Rattle.net_laws.specs.Logs.Effect.{builds}
 use Rattle.net_laws.specs.Readings.{RowAnswer}
 use Rattle.net_laws.specs.States.{State, fresh}

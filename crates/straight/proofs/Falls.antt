@@ -1,11 +1,10 @@
 -- By the marks of a finished walk the nodes can be hung. Assumes nothing.
-use Rattle.std.proofs.Common.{◌≡◌, ℕ, ◌<◌, ◌≤◌, Bool, false, ◌⊎◌, List, Some, Option, unwrap_or, ap, ◌∙◌, ⊎_elim, arith}
+use Rattle.std.proofs.Common.{◌≡◌, ℕ, ◌<◌, false, List, Some, Option, unwrap_or, ap, ⊎_elim, arith}
 use Rattle.space.specs.declared.spot.Spot.{Spot}
 use Rattle.forest.specs.declared.Edge.{Edge}
 use Rattle.forest.specs.Edges.{Sound}
-use Rattle.forest.specs.Rooted.{Forest}
 use Rattle.walk_laws.specs.Walk.{Mark, Rules, Table}
-use Rattle.walk_laws.specs.Promise.{Branch, Guarantee, Hangs, Spanning}
+use Rattle.walk_laws.specs.Promise.{Branch, Hangs, Spanning}
 use Rattle.walk_laws.proofs.Keeps.{ends_below, first_below}
 use Rattle.walk_laws.proofs.Planting.{branch_length, planted_spans}
 use Rattle.walk.specs.Walked.{Walked}

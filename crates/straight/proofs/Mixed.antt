@@ -1,13 +1,13 @@
 -- Rows of which some are laid as in the straight tree and the others hang on the driver. Assumes nothing.
-use Rattle.std.proofs.Common.{◌≡◌, ℕ, zero, suc, ◌+◌, ◌<◌, ◌≤◌, Bool, true, false, cond, ◌||◌, eqb, ◌⊎◌, List, [], ◌∷◌, ◌++◌, length, get_or, Some, None, Option, sym, refl, ap, ◌∙◌, subst, inl, inr, ⊎_elim, add-one, arith}
+use Rattle.std.proofs.Common.{◌≡◌, ℕ, zero, suc, ◌+◌, ◌<◌, ◌≤◌, true, false, cond, ◌||◌, eqb, ◌⊎◌, List, [], ◌∷◌, ◌++◌, length, Some, None, Option, sym, refl, ap, ◌∙◌, subst, inl, inr, ⊎_elim, add-one, arith}
 use Rattle.std.proofs.lemmas.List.{ext_get_or, get_or-set_other, get_or-set_same}
-use Rattle.std.proofs.lemmas.Bool.{cases_Bool, cases_eq, cases_lt, cond-false, cond-true, ne_eqb, or_from, or_right}
+use Rattle.std.proofs.lemmas.Bool.{cases_Bool, cases_lt, cond-false, cond-true, ne_eqb, or_from, or_right}
 use Rattle.order.specs.Firsts.{Among}
 use Rattle.order.proofs.Finding.{among_either, among_none, among_one}
 use Rattle.space.specs.declared.spot.Spot.{Spot}
 use Rattle.walk_laws.specs.Walk.{Rules, Table}
 use Rattle.tree_laws.specs.declared.Row.{Row}
-use Rattle.tree_laws.specs.Trees.{Hangs, Tree, Way, add, blank, hang, row_of, spot_of, under, up}
+use Rattle.tree_laws.specs.Trees.{Hangs, Tree, Way, add, blank, hang, row_of, spot_of, up}
 use Rattle.tree_laws.specs.Trees.Way.{home, down}
 use Rattle.tree_laws.proofs.Adding.{add_length, add_new, add_old}
 use Rattle.tree_laws.proofs.Hanging.{hang_length}

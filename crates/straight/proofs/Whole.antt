@@ -1,12 +1,11 @@
 -- What the measuring, the walk and the laying come to. `d` is the distance of two spots. Assumes nothing.
-use Rattle.std.proofs.Common.{◌≡◌, ℕ, ◌+◌, ◌<◌, ◌≤◌, Bool, true, ◌&&◌, eqb, List, map, length, get_or, sym, refl, ap, ◌∙◌, subst, arith}
+use Rattle.std.proofs.Common.{◌≡◌, ℕ, ◌+◌, ◌<◌, Bool, true, ◌&&◌, eqb, List, map, length, get_or, sym, ap, ◌∙◌, subst}
 use mathlib.Core.Path.{fun_ext}
 use Rattle.std.proofs.lemmas.List.{length-map}
 use Rattle.std.proofs.lemmas.Bool.{and_from, eq-eqb, eqb-true}
 use Rattle.space.specs.declared.spot.Spot.{Spot}
 use Rattle.forest.specs.declared.Edge.{Edge}
 use Rattle.forest.specs.Edges.{Sound}
-use Rattle.walk_laws.specs.Walk.{Rules}
 use Rattle.walk.specs.declared.row.Row.{Row as WalkRow}
 use Rattle.walk.specs.Marks.{directs, marks}
 use Rattle.walk.specs.Marks as walk

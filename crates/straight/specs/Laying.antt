@@ -1,5 +1,5 @@
 -- How the rows of a straight tree are laid, one after another. Assumes nothing.
-use Rattle.std.specs.Prelude.{◌≡◌, ℕ, ◌<◌, ◌≤◌, Bool, false, List, map, length, ◌≢◌}
+use Rattle.std.specs.Prelude.{◌≡◌, ℕ, ◌<◌, ◌≤◌, false, List, map, length, ◌≢◌}
 use Rattle.std.specs.Option.{unwrap_or}
 use Rattle.space.specs.declared.spot.Spot.{Spot}
 use Rattle.walk_laws.specs.Walk.{Rules}

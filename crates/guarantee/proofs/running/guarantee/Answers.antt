@@ -1,7 +1,7 @@
-use Rattle.std.proofs.Common.{◌≡◌, take, Result, sym, refl, subst}
+use Rattle.std.proofs.Common.{take, subst}
 use Rattle.net.specs.Nets.{seen}
 use Rattle.net.proofs.Owned.{joining_keeps_lem, wiring_keeps}
-use Rattle.net_laws.specs.States.{State, fresh}
+use Rattle.net_laws.specs.States.{State}
 use Rattle.net_laws.specs.Worlds.{Whole, joining, wiring}
 use Rattle.net_laws.proofs.Keeping.{fresh_tied}
 use Rattle.guarantee.specs.Kept.{Kept, wired}

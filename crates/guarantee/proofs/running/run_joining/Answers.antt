@@ -1,10 +1,9 @@
-use Rattle.std.proofs.Common.{◌≡◌, ℕ, ◌+◌, ◌<◌, List, [], ◌∷◌, ◌++◌, length, get_or, take, set, pos, Result, sym, refl, ap, ◌∙◌, subst, arith, rules}
-use Rattle.std.proofs.lemmas.List.{get_or-take, take_more, take_more_set}
+use Rattle.std.proofs.Common.{◌≡◌, ℕ, ◌+◌, ◌<◌, List, [], ◌∷◌, ◌++◌, length, get_or, take, set, pos, Result, sym, refl, ◌∙◌, subst, arith}
+use Rattle.std.proofs.lemmas.List.{take_more, take_more_set}
 use Rattle.net.specs.Nets.{seen}
 use Rattle.net.proofs.Owned.{joining_keeps_lem}
 use Rattle.net_laws.specs.Answers.{JoinAnswers}
 use Rattle.net_laws.specs.Worlds.{Whole, joining}
-use Rattle.net_laws.specs.declared.call.Call.{Call}
 use Rattle.net_laws.specs.declared.call.Call.TheVariants.{Pin}
 use Rattle.net_laws.specs.declared.call.JoinCall.{JoinCall}
 use Rattle.net_laws.specs.declared.call.JoinCall.TheVariants.{Wire}

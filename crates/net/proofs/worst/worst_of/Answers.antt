@@ -1,4 +1,4 @@
-use Rattle.std.proofs.Common.{◌≡◌, ℕ, ap, arith}
+use Rattle.std.proofs.Common.{ℕ}
 use Rattle.net_laws.specs.Readings.{figure_of}
 use Rattle.span.specs.Lengths.{length_of}
 use Rattle.tree.specs.Tables.{rows_of}

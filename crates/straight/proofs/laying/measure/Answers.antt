@@ -1,4 +1,4 @@
-use Rattle.std.proofs.Common.{◌≡◌, ℕ, ◌<◌, ◌≤◌, length, ap, arith}
+use Rattle.std.proofs.Common.{◌≡◌, ◌<◌, length, ap, arith}
 use Rattle.walk.specs.Tables.{rows_of}
 use Rattle.tree.specs.Hooks.{reach_of}
 use Rattle.straight.specs.Built.{spot_at}

@@ -1,7 +1,7 @@
-use Rattle.std.proofs.Common.{◌≡◌, ℕ, ◌+◌, ◌<◌, ◌≤◌, List, length, sym, subst, arith}
+use Rattle.std.proofs.Common.{◌≡◌, ℕ, ◌+◌, List, length, sym, subst, arith}
 use Rattle.tree_laws.specs.declared.Row.{Row}
 use Rattle.tree_laws.specs.Trees.{add}
-use Rattle.tree.specs.Tables.{alone, rows_of}
+use Rattle.tree.specs.Tables.{rows_of}
 use Rattle.walk.specs.Marks.{marks, rules_of}
 use Rattle.walk.specs.Tables.{rows_of as walkRows}
 use Rattle.straight.specs.Built.{spot_at}

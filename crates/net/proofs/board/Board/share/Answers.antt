@@ -1,4 +1,4 @@
-use Rattle.std.proofs.Common.{◌≡◌, Bool, refl, ap, arith}
+use Rattle.std.proofs.Common.{Bool, refl, ap, arith}
 use Rattle.net_laws.specs.States.{State}
 use Rattle.tree.specs.Tables.{rows_of}
 use Rattle.net.specs.Nets.{seen, standing}

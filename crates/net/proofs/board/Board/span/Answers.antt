@@ -1,8 +1,6 @@
-use Rattle.std.proofs.Common.{◌≡◌, List, vec_items, refl, ap, ◌∙◌}
-use Rattle.forest.specs.declared.Edge.{Edge}
+use Rattle.std.proofs.Common.{vec_items, ap, ◌∙◌}
 use Rattle.net_laws.specs.States.{State}
 use Rattle.seed.specs.Seeds.{edges_of}
-use Rattle.net.specs.Nets.{seen}
 use Rattle.net.proofs.Boards.{first_span}
 use Rattle.net.proofs.board.Board.span.Goals as goal
 

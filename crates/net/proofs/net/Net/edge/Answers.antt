@@ -1,4 +1,4 @@
-use Rattle.std.proofs.Common.{ℕ, Ok, Err, Result, refl, rules}
+use Rattle.std.proofs.Common.{ℕ, Ok, Result, refl, rules}
 use Rattle.net_laws.specs.Answers.{EdgeAnswer}
 use Rattle.net_laws.specs.Worlds.{cut, wiring}
 use Rattle.net_laws.specs.declared.fault.Fault.{Fault}

@@ -1,4 +1,4 @@
-use Rattle.std.proofs.Common.{◌≡◌, ℕ, List, Ok, Err, vec_items, Result, sym, refl, ap, ◌∙◌, subst, arith, rules}
+use Rattle.std.proofs.Common.{ℕ, List, Ok, vec_items, Result, sym, refl, ap, ◌∙◌, subst, arith, rules}
 use Rattle.build_laws.specs.Joining.{Joins}
 use Rattle.joined.specs.Joinings.{Joinable}
 use Rattle.net_laws.specs.Answers.{JoinedAnswer}

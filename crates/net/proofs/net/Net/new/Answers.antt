@@ -1,8 +1,7 @@
-use Rattle.std.proofs.Common.{◌≡◌, sym, refl, subst}
-use Rattle.net_laws.specs.States.{State, fresh}
+use Rattle.std.proofs.Common.{sym, refl, subst}
+use Rattle.net_laws.specs.States.{State}
 use Rattle.net_laws.specs.Worlds.{Whole, wiring}
 use Rattle.net_laws.proofs.Keeping.{fresh_tied}
-use Rattle.net.specs.Nets.{seen}
 use Rattle.net.proofs.Owned.{wiring_keeps}
 use Rattle.net.proofs.net.Net.new.Goals as goal
 

@@ -1,4 +1,4 @@
-use Rattle.std.proofs.Common.{ℕ, Ok, Err, vec_items, Result, refl, rules}
+use Rattle.std.proofs.Common.{ℕ, Ok, vec_items, Result, refl, rules}
 use Rattle.net_laws.specs.Answers.{StraightAnswer}
 use Rattle.net_laws.specs.Worlds.{cut, wiring}
 use Rattle.net_laws.specs.declared.fault.Fault.{Fault}

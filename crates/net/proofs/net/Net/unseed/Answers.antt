@@ -1,4 +1,4 @@
-use Rattle.std.proofs.Common.{◌≡◌, Ok, Err, Result, refl, rules}
+use Rattle.std.proofs.Common.{◌≡◌, refl}
 use Rattle.net_laws.specs.States.{unseeded}
 use Rattle.net.specs.Nets.{seen}
 use Rattle.net.proofs.Owned.{whole_unseed}
