@@ -1,5 +1,11 @@
 #!/usr/bin/env bash
-# Proves every crate from nothing, tries the must-fail edits, runs the programs and the tests.
+# Proves every crate from nothing, tries the must-fail edits, runs the programs and the tests. Fails too where an edit could not be tried.
 set -euo pipefail
 cd "$(dirname "$0")"
-exec rt ci
+log=$(mktemp)
+trap 'rm -f "$log"' EXIT
+rt ci 2>&1 | tee "$log"
+if grep -E '^rt: ok' "$log" | grep -qE ', [1-9][0-9]* bad'; then
+  echo "test.sh: an edit of must-fail/ could not be tried: read the lines BAD EDIT above" >&2
+  exit 1
+fi

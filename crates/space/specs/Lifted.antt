@@ -34,6 +34,9 @@ middle_high a b c h k l = sym (true_is_le (middle a b c) (pos 15) (omega (arith,
 pub narrow_sum : (w c : ℕ) → lift_width w c ≤ 100000000 → w + 15 * c ≤ 100000000
 narrow_sum w c h = omega arith
 
+pub narrow_below : (w c : ℕ) → lift_width w c ≤ 100000000 → w ≤ 100000000
+narrow_below w c h = omega arith
+
 module _ (admitted : Spot → Bool) (w : ℕ) (d : Spot → Spot → ℕ) (c : ℕ) (narrow : w + 15 * c ≤ 100000000) (m : Metric admitted w d) where
   climbs : (a b : Spot) → Lifted admitted a → Lifted admitted b → c * apart a.level b.level ≤ 15 * c
   climbs a b h k = omega (arith, mul-le-mul_left c (levels_apart a.level b.level h.low h.high k.low k.high))

@@ -1,8 +1,7 @@
 // A lift: a space in which a wire may also change level, at a price for each level. It stands over any wiring space.
 ghost use Rattle.std.specs.Prelude.{◌≡◌, ◌*◌, ◌&&◌, pos, int_le};
 ghost use Rattle.space.specs.Shapes.{apart, spot_at_level, flat, middle as middle_of, lift_admitted, lift_width, lift_between, lift_meeting};
-ghost use Rattle.std.proofs.Common.{arith};
-ghost use Rattle.space.specs.Lifted.{narrow_sum, lifted_metric, lifted_meets};
+ghost use Rattle.space.specs.Lifted.{narrow_sum, narrow_below, lifted_metric, lifted_meets};
 
 use crate::middle_one::middle;
 use crate::spot::Spot;
@@ -53,7 +52,8 @@ impl<S: Space> Space for Lift<S> {
 
     ghost metric = { λ s narrow.
         let sum = narrow_sum (S.Space.width s.below) s.price narrow in
-        lifted_metric _ _ _ s.price sum (S.Space.metric s.below (omega arith)) };
+        let below = narrow_below (S.Space.width s.below) s.price narrow in
+        lifted_metric _ _ _ s.price sum (S.Space.metric s.below below) };
 
     fn admits(&self, spot: Spot) -> bool {
         on_levels(spot) && self.below.admits(flatten(spot))
@@ -79,7 +79,8 @@ impl<S: Joining> Joining for Lift<S> {
 
     ghost meets = { λ s narrow.
         let sum = narrow_sum (S.Space.width s.below) s.price narrow in
-        lifted_meets _ _ _ s.price sum (S.Space.metric s.below (omega arith)) _ (S.Joining.meets s.below (omega arith)) };
+        let below = narrow_below (S.Space.width s.below) s.price narrow in
+        lifted_meets _ _ _ s.price sum (S.Space.metric s.below below) _ (S.Joining.meets s.below below) };
 
     fn meet(&self, o: Spot, a: Spot, b: Spot) -> Option<Spot> {
         if !self.admits(o) || !self.admits(a) || !self.admits(b) {
