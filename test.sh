@@ -1,5 +1,6 @@
 #!/usr/bin/env bash
-# Proves every crate from nothing, tries the must-fail edits, runs the programs and the tests. Fails too where an edit could not be tried.
+# Proves every crate (what an earlier run on this machine proved of the same files counts), tries the must-fail edits, runs the programs
+# and the tests. Fails too where an edit could not be tried.
 set -euo pipefail
 cd "$(dirname "$0")"
 log=$(mktemp)

@@ -2,7 +2,7 @@
 """Brings the repository's own definitions and lemmas to the spelling of today's library: words in snake case, types in camel case.
 
 Run once at the top of the repository, after the kit's own port.py: each name on the left of tools/respell.txt becomes the one on its right, in
-every .antt file and in the ghost lines and clauses of every .rt file. Comments, strings, code, inputs and outputs stay as they are.
+every .antt file and in every .rt file, but for comments and strings. Code is not meant: no name of the list stands in any.
 """
 import glob
 import os
