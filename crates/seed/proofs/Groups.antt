@@ -1,24 +1,23 @@
 -- Lemmas on the labels that a seed keeps.
-use Rattle.std.proofs.Common.{◌≡◌, ℕ, ◌<◌, ◌≤◌, cond, eqb, List, [], ◌∷◌, ◌++◌, length, get_or, Decides, sym, ap, ◌∙◌, arith}
-use Rattle.std.proofs.lemmas.Bool.{eq-eqb, eqb-true}
-use Rattle.std.proofs.lemmas.List.{get_or_read_under}
+use Rattle.std.proofs.Common.{◌≡◌, ℕ, ◌<◌, ◌≤◌, cond, eqb, List, [], ◌∷◌, ◌++◌, length, get_or, Decides, sym, refl, ap, ◌∙◌, ⊎_elim, arith}
+use Rattle.std.proofs.lemmas.Bool.{cases_lt, eq-eqb, eqb-true}
+use Rattle.std.proofs.lemmas.List.{get_or_append_left, get_or_push, get_or_read_under, length_push}
 use Rattle.forest.specs.declared.Edge.{Edge}
-use Rattle.forest.specs.Edges.{Joined}
+use Rattle.forest.specs.Edges.{Joined, Sound}
 use Rattle.forest.specs.Labels.{label_of}
-use Rattle.forest.proofs.Labelled.{label_joined, joined_label, label_push}
-
--- The list has the label of each node that a seed can have.
-abbrev pub Labelled : List Edge → List ℕ → Type 0
-Labelled E xs = (v : ℕ) → v < 512 → get_or xs v 0 ≡ label_of E v
+use Rattle.forest.proofs.Accepted.{accepted, near_below}
+use Rattle.forest.proofs.Chains.{joined_alone, joined_back, near_back}
+use Rattle.forest.proofs.Labelled.{label_head, label_joined, joined_label, label_push}
+use Rattle.seed.specs.Labelled.{Labelled}
 
 -- what is read at a node is its label
-pub label_read : (E : List Edge) (xs : List ℕ) (v n x : ℕ) → n ≤ 512 → length xs ≡ 512 → Labelled E xs → v < n → x ≡ get_or xs v x → x ≡ label_of E v
-label_read E xs v n x few len h l e = get_or_read_under xs v 512 x 0 e (omega arith) (sym len) ∙ h v (omega arith)
+pub label_read : (E : List Edge) (xs : List ℕ) (v x : ℕ) → Labelled E xs → v < length xs → x ≡ get_or xs v x → x ≡ label_of E v
+label_read E xs v x h l e = get_or_read_under xs v (length xs) x 0 e l refl ∙ h v l
 
-pub labels_decide : (E : List Edge) (a b n x y : ℕ) → a < n → b < n → x ≡ label_of E a → y ≡ label_of E b → Decides (eqb x y) ((a < n) × (b < n) × Joined E a b)
-labels_decide E a b n x y la lb p q = (
-  (λ t. (la, lb, label_joined E a b (sym p ∙ eqb-true x y t ∙ q))),
-  (λ j. eq-eqb x y (p ∙ joined_label j.2 ∙ sym q)),
+pub labels_decide : (E : List Edge) (a b x y : ℕ) → x ≡ label_of E a → y ≡ label_of E b → Decides (eqb x y) (Joined E a b)
+labels_decide E a b x y p q = (
+  (λ t. label_joined E a b (sym p ∙ eqb-true x y t ∙ q)),
+  (λ j. eq-eqb x y (p ∙ joined_label j ∙ sym q)),
 )
 
 -- the label of v after one more edge, from what was read before it
@@ -30,3 +29,32 @@ label_after E e v x y from to p q r s =
     ∙ ap (λ z. cond (eqb (f v) z) to (f v)) r
     ∙ ap (λ z. cond (eqb (f v) (f e.b)) z (f v)) s
     ∙ sym (label_push E e v)
+
+-- ---- one more node
+
+pub labelled_none : Labelled [] []
+labelled_none v h = absurd (past v h)
+  where
+    past : (v : ℕ) → v < 0 → ⊥
+    past v h = omega arith
+
+-- a node that no edge touches has its own number as its label
+pub label_alone : (n : ℕ) (E : List Edge) (v : ℕ) → Sound n E → n ≤ v → label_of E v ≡ v
+label_alone n E v s h =
+    sym
+    (joined_alone
+    (λ x k near. past v (near_below (accepted n E s) (near_back near)) h)
+    (joined_back (label_joined E (label_of E v) v (label_head E v))))
+  where
+    past : (v : ℕ) → v < n → n ≤ v → ⊥
+    past v l h = omega arith
+
+-- one more label, the number of a node that no edge touches
+pub labelled_add : (E : List Edge) (xs : List ℕ) → label_of E (length xs) ≡ length xs → Labelled E xs → Labelled E (xs ++ length xs ∷ [])
+labelled_add E xs own h v l =
+    ⊎_elim
+    (λ (k : v < length xs). get_or_append_left xs (length xs ∷ []) 0 v k ∙ h v k)
+    (λ (k : length xs ≤ v).
+    let e : length xs ≡ v = omega (arith, length_push xs (length xs)) in
+    get_or_push xs (length xs) 0 v e ∙ sym own ∙ ap (label_of E) e)
+    (cases_lt v (length xs))

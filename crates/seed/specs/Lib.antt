@@ -1,3 +1,4 @@
 pub use Rattle.forest.specs.Rooted
+pub mod Labelled
 pub mod Seeds
 pub mod Steps

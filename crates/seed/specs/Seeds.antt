@@ -1,5 +1,5 @@
 -- What a seed holds, and the answer to each request to join two of its nodes. Assumes nothing.
-use Rattle.std.specs.Prelude.{◌≡◌, ℕ, ◌+◌, ◌<◌, ◌≤◌, List, [], ◌∷◌, ◌++◌, Some, None, Ok, Err, vec_items, Option, Result}
+use Rattle.std.specs.Prelude.{◌≡◌, ℕ, ◌+◌, ◌<◌, ◌≤◌, List, [], ◌∷◌, ◌++◌, length, Some, None, Ok, Err, vec_items, Option, Result}
 use Rattle.forest.specs.declared.Edge.{Edge}
 use Rattle.forest.specs.Edges.{Joined}
 use Rattle.seed.specs.declared.store.Seed.{Seed}
@@ -10,9 +10,9 @@ use Rattle.seed.specs.declared.store.Refusal.TheVariants as refusal
 abbrev pub edges_of : Seed → List Edge
 edges_of s = vec_items s.edges
 
--- How many nodes there are; they are numbered from 0.
+-- How many nodes there are, each with its label; they are numbered from 0.
 abbrev pub nodes_of : Seed → ℕ
-nodes_of s = s.nodes
+nodes_of s = length (vec_items s.labels.of)
 
 abbrev pub edge : (a b l : ℕ) → Edge
 edge a b l = record { a = a; b = b; length = l }

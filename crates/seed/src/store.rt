@@ -1,11 +1,13 @@
-ghost use Rattle.std.specs.Prelude.{◌≡◌, ℕ, ◌<◌, ◌≤◌, length, vec_capacity, slice_index};
+ghost use Rattle.std.specs.Prelude.{◌≤◌, length, vec_capacity};
 ghost use Rattle.forest.specs.Edges.{Sound};
-ghost use Rattle.forest.specs.Labels.{label_of};
+ghost use Rattle.seed.specs.Labelled.{Labelled};
 
 use forest::Edge;
+use labels::Labels;
 
 mod asking;
 mod joining;
+mod labels;
 mod measuring;
 mod stepping;
 mod taking;
@@ -14,10 +16,10 @@ mod taking;
 pub const NODES: usize = 512;
 
 /// The greatest length of an edge.
-pub const LONGEST: u64 = 100_000_000;
+pub use space::LONGEST;
 
 /// Why a request is refused.
-#[derive(Clone, Copy)]
+#[derive(Clone, Copy, Debug, PartialEq, Eq)]
 pub enum Refusal {
     /// A number that is no node, or too many nodes.
     Outside,
@@ -30,16 +32,13 @@ pub enum Refusal {
 }
 
 /// Nodes numbered from 0, and edges between them of which none closes a loop.
-/// `group` has a label for each of `NODES` nodes: joined nodes have equal labels, and other nodes have not.
 #[derive(Drop)]
 pub struct Seed {
-    nodes: usize,
     edges: Vec<Edge>,
-    group: Vec<usize>,
-    ghost few: { nodes ≤ 512 },
+    labels: Labels,
+    ghost few: { length labels.of.items ≤ 512 },
     ghost room: { 512 ≤ vec_capacity edges },
-    ghost fewer: { length edges.items ≤ nodes },
-    ghost sound: { Sound nodes edges.items },
-    ghost labels: { length group.items ≡ 512 },
-    ghost labelled: { (v : ℕ) → v < 512 → slice_index group.items v ≡ label_of edges.items v },
+    ghost fewer: { length edges.items ≤ length labels.of.items },
+    ghost sound: { Sound (length labels.of.items) edges.items },
+    ghost labelled: { Labelled edges.items labels.of.items },
 }

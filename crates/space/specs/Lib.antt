@@ -1,5 +1,6 @@
 pub mod Laws
 pub mod Shapes
+pub mod Spots
 pub mod Root
 pub mod Grid
 pub mod Lifted

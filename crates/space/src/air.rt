@@ -28,8 +28,8 @@ fn square_sum(a: Spot, b: Spot) -> u64
     requires to { in_range b ≡ true }
     ensures { result ≡ squares a b }
 {
-    let dx = a.x.abs_diff(b.x) as u64;
-    let dy = a.y.abs_diff(b.y) as u64;
+    let dx = u64::from(a.x.abs_diff(b.x));
+    let dy = u64::from(a.y.abs_diff(b.y));
     dx * dx + dy * dy
 }
 
@@ -55,10 +55,7 @@ impl Space for Air {
         ensures answer { result ≡ answered (in_range a && in_range b) (air_between a b) }
         ensures least { IfSome result (λ d. LeastRoot (squares a b) d) }
     {
-        if in_range(a) && in_range(b) {
-            Some(root_up(square_sum(a, b)))
-        } else {
-            None
-        }
+        let admitted = in_range(a) && in_range(b);
+        admitted.then(|| root_up(square_sum(a, b)))
     }
 }

@@ -17,7 +17,10 @@ pub use air::Air;
 pub use lift::Lift;
 pub use middle_one::middle;
 pub use plane::Plane;
-pub use spot::Spot;
+pub use spot::{Spot, spot_of};
+
+/// The laws are owed by every space that is at most this wide.
+pub const LONGEST: u64 = 100_000_000;
 
 // A wiring space. `admitted`, `width` and `between` are what it means; each call answers its part of that meaning and
 // changes nothing. The law is owed whenever the space is at most 100,000,000 wide.

@@ -26,14 +26,14 @@ fn flatten(spot: Spot) -> Spot
 fn on_levels(spot: Spot) -> bool
     ensures { result ≡ (int_le (pos 0) spot.level && int_le spot.level (pos 15)) }
 {
-    spot.level >= 0 && spot.level <= TOP
+    (0..=TOP).contains(&spot.level)
 }
 
 /// What it costs to change from the level of one spot to that of another.
 fn level_cost(price: u32, a: Spot, b: Spot) -> u64
     ensures { result ≡ price * apart a.level b.level }
 {
-    price as u64 * a.level.abs_diff(b.level) as u64
+    u64::from(price) * u64::from(a.level.abs_diff(b.level))
 }
 
 /// The spot z moved to the middle level of o, a and b.
@@ -62,7 +62,7 @@ impl<S: Space> Space for Lift<S> {
     fn widest(&self) -> u64 {
         self.below
             .widest()
-            .saturating_add(TOP as u64 * self.price as u64)
+            .saturating_add(u64::from(TOP.unsigned_abs()) * u64::from(self.price))
     }
 
     fn distance(&self, a: Spot, b: Spot) -> Option<u64> {
@@ -86,9 +86,7 @@ impl<S: Joining> Joining for Lift<S> {
         if !self.admits(o) || !self.admits(a) || !self.admits(b) {
             return None;
         }
-        match self.below.meet(flatten(o), flatten(a), flatten(b)) {
-            Some(z) => Some(at_middle_level(z, o, a, b)),
-            None => None,
-        }
+        let z = self.below.meet(flatten(o), flatten(a), flatten(b))?;
+        Some(at_middle_level(z, o, a, b))
     }
 }

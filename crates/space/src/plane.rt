@@ -40,11 +40,8 @@ impl Space for Plane {
     }
 
     fn distance(&self, a: Spot, b: Spot) -> Option<u64> {
-        if in_range(a) && in_range(b) {
-            Some(a.x.abs_diff(b.x) as u64 + a.y.abs_diff(b.y) as u64)
-        } else {
-            None
-        }
+        let admitted = in_range(a) && in_range(b);
+        admitted.then(|| u64::from(a.x.abs_diff(b.x)) + u64::from(a.y.abs_diff(b.y)))
     }
 }
 
@@ -54,10 +51,7 @@ impl Joining for Plane {
     ghost meets = { λ s narrow. plane_meets };
 
     fn meet(&self, o: Spot, a: Spot, b: Spot) -> Option<Spot> {
-        if in_range(o) && in_range(a) && in_range(b) {
-            Some(median(o, a, b))
-        } else {
-            None
-        }
+        let admitted = in_range(o) && in_range(a) && in_range(b);
+        admitted.then(|| median(o, a, b))
     }
 }

@@ -1,8 +1,12 @@
 // A place where a wire can begin, end or part.
-ghost use Rattle.std.specs.Prelude.{◌≡◌};
+ghost use Rattle.std.specs.Prelude.{◌≡◌, Some};
 ghost use Rattle.space.specs.Shapes.{spot_at_level};
+ghost use Rattle.space.specs.Spots.{spot_of, spot_text};
 
-#[derive(Clone, Copy, PartialEq, Eq, Debug)]
+use std::fmt;
+
+/// The default is the origin: level 0, with x and y 0.
+#[derive(Clone, Copy, PartialEq, Eq, Debug, Default)]
 pub struct Spot {
     pub x: i32,
     pub y: i32,
@@ -20,4 +24,21 @@ impl Spot {
             level,
         }
     }
+}
+
+// Three decimal numbers, `x,y,level`.
+impl fmt::Display for Spot {
+    ghost output = { λ s. Some (spot_text s) };
+
+    fn fmt<W: fmt::Write>(&self, f: &mut fmt::Formatter<W>) -> fmt::Result {
+        let Spot { x, y, level } = *self;
+        write!(f, "{x},{y},{level}")
+    }
+}
+
+/// The spot at the place `k`; the origin where there is none.
+pub fn spot_of(spots: &[Spot], k: usize) -> Spot
+    ensures { result ≡ spot_of spots.now k }
+{
+    spots.get(k).copied().unwrap_or_default()
 }

@@ -44,11 +44,8 @@ impl Space for Line {
     }
 
     fn distance(&self, a: Spot, b: Spot) -> Option<u64> {
-        if on_line(a) && on_line(b) {
-            Some(a.x.abs_diff(b.x) as u64)
-        } else {
-            None
-        }
+        let admitted = on_line(a) && on_line(b);
+        admitted.then(|| u64::from(a.x.abs_diff(b.x)))
     }
 }
 
@@ -58,10 +55,7 @@ impl Joining for Line {
     ghost meets = { λ s narrow. line_meets };
 
     fn meet(&self, o: Spot, a: Spot, b: Spot) -> Option<Spot> {
-        if on_line(o) && on_line(a) && on_line(b) {
-            Some(median(o, a, b))
-        } else {
-            None
-        }
+        let admitted = on_line(o) && on_line(a) && on_line(b);
+        admitted.then(|| median(o, a, b))
     }
 }

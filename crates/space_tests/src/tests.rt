@@ -1,6 +1,7 @@
 use crate::line::Line;
 use crate::vast::Vast;
-use space::{Air, Joining, Lift, Plane, Space, Spot};
+use space::{Air, Joining, Lift, Plane, Space, Spot, spot_of};
+use std::alloc::AllocError;
 use std::process::Abort;
 
 fn at(x: i32, y: i32, level: i32) -> Spot {
@@ -153,4 +154,19 @@ fn line_spots_may_be_0_apart(rt: HostRuntime) {
         Line.meet(at(0, 7, 0), at(4, 3, 0), at(6, 1, 0)),
         Some(at(4, 7, 0))
     );
+}
+
+#[test]
+fn spots_are_shown(rt: HostRuntime) -> Result<(), AllocError> {
+    let shown = at(-1_000_000, 2, 15).to_string(rt.alloc())?;
+    assert_eq!(rt; shown.as_str(), "-1000000,2,15");
+    assert_eq!(rt; Spot::default(), at(0, 0, 0));
+    Ok(())
+}
+
+#[test]
+fn spots_by_place(rt: HostRuntime) {
+    let spots = [at(4, 3, 0), at(5, 1, 2)];
+    assert_eq!(rt; spot_of(&spots, 1), at(5, 1, 2));
+    assert_eq!(rt; spot_of(&spots, 2), at(0, 0, 0));
 }

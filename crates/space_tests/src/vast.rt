@@ -29,6 +29,6 @@ impl Space for Vast {
     }
 
     fn distance(&self, a: Spot, b: Spot) -> Option<u64> {
-        if a.x == b.x { Some(0) } else { Some(self.far) }
+        Some(if a.x == b.x { 0 } else { self.far })
     }
 }

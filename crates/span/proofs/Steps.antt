@@ -1,8 +1,8 @@
 -- How the spanning seed grows: the first of the firsts is the first of all pairs, and each step keeps the firsts. Assumes nothing.
-use Rattle.std.proofs.Common.{◌≡◌, ℕ, zero, suc, ◌+◌, ◌<◌, ◌≤◌, Bool, true, false, cond, ◌⊎◌, List, [], ◌∷◌, ◌++◌, map, length, get_or, take, filter, sym, refl, ap, ◌∙◌, subst, inl, inr, ⊎_elim, add-one, arith}
+use Rattle.std.proofs.Common.{◌≡◌, ℕ, zero, suc, ◌+◌, ◌<◌, ◌≤◌, Bool, true, false, cond, ◌⊎◌, List, [], ◌∷◌, ◌++◌, map, length, get_or, take, filter, Some, None, Option, unwrap_or, sym, refl, ap, ◌∙◌, subst, inl, inr, ⊎_elim, add-one, arith}
 use Rattle.std.proofs.lemmas.List.{length_push, get_or_push, take_all, take_more, take-append-le, get_or_append_left}
 use Rattle.std.proofs.lemmas.Bool.{cases_Bool, cases_eq, cases_lt, ne_eqb, eqb-false, not-true, not_from_false}
-use Rattle.order.specs.Firsts.{Among, First}
+use Rattle.order.specs.Firsts.{Among, First, FirstOf}
 use Rattle.order.specs.Firsts.Among.{here, there}
 use Rattle.order.specs.Links.{link_before}
 use Rattle.order.specs.declared.link.Link.{Link}
@@ -20,7 +20,7 @@ use Rattle.span.specs.Spanning.{Alone, FirstPair, Firsts, Pair, Spanning, Steps,
 
 -- ---- the first of two
 
-pub first_better : (x y z : Link) → First link_before (x ∷ y ∷ []) z → z ≡ better x y
+first_better : (x y z : Link) → First link_before (x ∷ y ∷ []) z → z ≡ better x y
 first_better x y z h =
     ⊎_elim
     (λ (e : link_before y x ≡ true).
@@ -30,6 +30,10 @@ first_better x y z h =
     let f : First link_before (x ∷ y ∷ []) x = first_keeps link_order (first_one link_order x) e in
     first_unique link_order h f ∙ ap (λ b. cond b y x) (sym e))
     (cases_Bool (link_before y x))
+
+pub first_of_two : (x y : Link) (r : Option Link) → FirstOf link_before (x ∷ y ∷ []) r → unwrap_or r x ≡ better x y
+first_of_two x y (Some z) h = first_better x y z h
+first_of_two x y None h = absurd (omega (arith, ap length h))
 
 -- neither of two links comes before the better one, whatever the test says
 better_cases : (P : Link → Type 0) (x y : Link) → (link_before y x ≡ true → P y) → (link_before y x ≡ false → P x) → P (better x y)

@@ -6,3 +6,4 @@ mod growing;
 mod links;
 
 pub use growing::Spanner;
+pub use links::length_between;

@@ -114,6 +114,3 @@ module _ (bs : List ℕ) (r : Pieces) (f g : Bor (List ℕ)) (h : IsSplitOnceRes
 
   pub ratio_under : (x : ℕ × ℕ) → Ratio bs x → WritesNatural g.now x.1
   ratio_under x l = subst (λ (t : List ℕ). WritesNatural t x.1) (ratio_cut x l).1 l.under
-
-  pub ratio_is : (p q : ℕ) → WritesNatural f.now p → WritesNatural g.now q → Ratio bs (p, q)
-  ratio_is p q a b = record { first = f.now; second = g.now; parted = parts 47 slash bs r f g h e; over = a; under = b }

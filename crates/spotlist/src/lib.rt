@@ -5,39 +5,30 @@ ghost use Rattle.spotlist.specs.Lines.{Read, Writes, WritesNatural, Numbers, Rat
 
 use space::Spot;
 
-// The number that the text writes; nothing exactly when it writes none in signed 32 bits.
+/// The number that the text writes; nothing exactly when it writes none in signed 32 bits.
 fn number(text: &str) -> Option<i32>
     ensures { Read Writes text.now result }
 {
     text.parse::<i32>().ok()
 }
 
-// The spot of three numbers; nothing exactly when one of the texts writes no number.
+/// The spot of three numbers; nothing exactly when one of the texts writes no number.
 fn three(first: &str, second: &str, third: &str) -> Option<Spot>
     ensures { Read (Numbers first.now second.now) third.now result }
 {
-    let Some(x) = number(first) else {
-        return None;
-    };
-    let Some(y) = number(second) else {
-        return None;
-    };
-    let Some(level) = number(third) else {
-        return None;
-    };
+    let x = number(first)?;
+    let y = number(second)?;
+    let level = number(third)?;
     Some(Spot { x, y, level })
 }
 
-// The spot on the line; nothing exactly when the line is not three numbers parted by commas.
+/// The spot on the line; nothing exactly when the line is not three numbers parted by commas.
+// Kept: `Spot` belongs to `space` and `FromStr` to std, so the impl would have to stand in `space` and this function would only call it.
 pub fn spot(line: &str) -> Option<Spot>
     ensures { Read SpotLine line.now result }
 {
-    let Some((first, rest)) = line.split_once(',') else {
-        return None;
-    };
-    let Some((second, third)) = rest.split_once(',') else {
-        return None;
-    };
+    let (first, rest) = line.split_once(',')?;
+    let (second, third) = rest.split_once(',')?;
     three(first, second, third)
 }
 
@@ -52,14 +43,8 @@ pub fn price(text: &str) -> Option<u32>
 pub fn ratio(text: &str) -> Option<(u32, u32)>
     ensures { Read Ratio text.now result }
 {
-    let Some((first, second)) = text.split_once('/') else {
-        return None;
-    };
-    let Some(p) = price(first) else {
-        return None;
-    };
-    let Some(q) = price(second) else {
-        return None;
-    };
+    let (first, second) = text.split_once('/')?;
+    let p = price(first)?;
+    let q = price(second)?;
     Some((p, q))
 }

@@ -11,11 +11,7 @@ impl Seed {
     pub fn joined(&self, a: usize, b: usize) -> bool
         ensures { Decides result ((a < nodes_of self.now) × (b < nodes_of self.now) × Joined (edges_of self.now) a b) }
     {
-        if a < self.nodes && b < self.nodes {
-            self.group[a] == self.group[b]
-        } else {
-            false
-        }
+        a < self.nodes() && b < self.nodes() && self.labels.joined(a, b)
     }
 
     /// Whether the edges are one fewer than the nodes. Every node then hangs together with node 0, between any two nodes there is
@@ -26,6 +22,6 @@ impl Seed {
         ensures paths { result ≡ true → Tree (nodes_of self.now) (edges_of self.now) }
         ensures planted { result ≡ true → Planted (nodes_of self.now) (edges_of self.now) }
     {
-        self.edges.len() + 1 == self.nodes
+        self.edges.len() + 1 == self.nodes()
     }
 }

@@ -2,7 +2,6 @@ ghost use Rattle.std.specs.Prelude.{◌≡◌, [], ◌∷◌, ◌++◌};
 ghost use Rattle.forest.specs.Edges.{Fit};
 ghost use Rattle.seed.specs.Seeds.{Asked, edge, edges_of, nodes_of};
 
-use super::taking::relabel;
 use super::{LONGEST, Refusal, Seed};
 use forest::Edge;
 
@@ -12,7 +11,7 @@ impl Seed {
     pub fn join(&mut self, a: usize, b: usize, length: u64) -> Result<(), Refusal>
         ensures { Asked self.old a b length result self.new }
     {
-        if a >= self.nodes || b >= self.nodes {
+        if a >= self.nodes() || b >= self.nodes() {
             return Err(Refusal::Outside);
         }
         if self.joined(a, b) {
@@ -33,9 +32,7 @@ impl Seed {
         ensures edges { edges_of self.new ≡ edges_of self.old ++ edge a b length ∷ [] }
         ensures nodes { nodes_of self.new ≡ nodes_of self.old }
     {
-        let to = self.group[a];
-        let from = self.group[b];
         self.edges.push_reserved(Edge { a, b, length });
-        relabel(&mut self.group, from, to);
+        self.labels.join(a, b);
     }
 }

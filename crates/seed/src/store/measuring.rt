@@ -10,7 +10,7 @@ impl Seed {
     pub fn nodes(&self) -> usize
         ensures { result ≡ nodes_of self.now }
     {
-        self.nodes
+        self.labels.count()
     }
 
     /// How many edges there are.
@@ -31,11 +31,6 @@ impl Seed {
     pub fn wire(&self) -> u64
         ensures { result ≡ wire (edges_of self.now) }
     {
-        let edges = self.edges.as_slice();
-        let mut sum = 0;
-        for edge in edges {
-            sum += edge.length;
-        }
-        sum
+        self.edges.iter().map(|edge| edge.length).sum()
     }
 }

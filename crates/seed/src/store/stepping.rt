@@ -38,14 +38,8 @@ fn lesser(
         return found;
     }
     match found {
-        Some((least, _)) => {
-            if least <= u {
-                found
-            } else {
-                Some((u, edge.length))
-            }
-        }
-        None => Some((u, edge.length)),
+        Some((least, _)) if least <= u => found,
+        _ => Some((u, edge.length)),
     }
 }
 

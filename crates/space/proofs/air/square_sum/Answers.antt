@@ -7,6 +7,6 @@ pub overflow_add-result : goal.overflow_add-result
 overflow_add-result c =
     let a = within c.args.a c.requires.from in
     let b = within c.args.b c.requires.to in
-    let dx : c.abs_diff-dx.result ≤ 2000000 = omega (arith, ints, a.across, b.across) in
-    let dy : c.abs_diff-dy.result ≤ 2000000 = omega (arith, ints, a.along, b.along) in
+    let dx : c.from-dx.result ≤ 2000000 = omega (arith, ints, a.across, b.across) in
+    let dy : c.from-dy.result ≤ 2000000 = omega (arith, ints, a.along, b.along) in
     omega (arith, mul-le-mul dx dx, mul-le-mul dy dy)

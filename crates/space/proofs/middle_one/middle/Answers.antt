@@ -1,10 +1,10 @@
-use Rattle.std.proofs.Common.{◌≡◌, sym, subst, arith, w32, to_z, of_z}
+use Rattle.std.proofs.Common.{◌≡◌, arith, w32, to_z, of_z}
 use Rattle.std.proofs.lemmas.Int.{to_z-of_z}
-use Rattle.space.specs.Shapes.{Middle, middle}
+use Rattle.space.specs.Shapes.{middle}
 use Rattle.space.specs.Grid.{middle_between}
 use Rattle.space.proofs.middle_one.middle.Goals as goal
 
-pub returns : goal.returns
-returns c =
+pub returns-clause-middle : goal.returns-clause-middle
+returns-clause-middle c =
     let value : to_z w32 (of_z w32 c.max.result) ≡ middle c.args.a c.args.b c.args.c = grind (arith, to_z-of_z) in
-    record { value = value; middle = subst (Middle c.args.a c.args.b c.args.c) (sym value) (middle_between c.args.a c.args.b c.args.c) }
+    rw value (middle_between c.args.a c.args.b c.args.c)

@@ -1,5 +1,6 @@
-use Rattle.span.proofs.Steps.{first_better}
+use Rattle.std.proofs.Common.{◌∙◌}
+use Rattle.span.proofs.Steps.{first_of_two}
 use Rattle.span.proofs.links.nearer.Goals as goal
 
-pub returns-in-Some : goal.returns-in-Some
-returns-in-Some c = first_better c.args.old c.args.new c.in-Some.link c.in-Some.ensures.first
+pub returns : goal.returns
+returns c = c.unwrap_or.ensures ∙ first_of_two c.args.old c.args.new c.first.result c.first.ensures.first

@@ -3,12 +3,9 @@ use Rattle.std.proofs.lemmas.List.{take_more, take_all}
 use Rattle.forest.specs.declared.Edge.{Edge}
 use Rattle.forest.specs.Growth.{LeastOf}
 use Rattle.forest.proofs.Accepted.{accepted}
-use Rattle.forest.proofs.Nearest.{nothing_none, least_of_head}
-use Rattle.seed.specs.Seeds.{edge, edges_of}
+use Rattle.forest.proofs.Nearest.{least_of_head}
+use Rattle.seed.specs.Seeds.{edge, edges_of, nodes_of}
 use Rattle.seed.proofs.store.Seed.neighbour.Goals as goal
-
-pub loop-edge-init : goal.loop-edge-init
-loop-edge-init c = nothing_none c.args.v c.args.from c.args.next
 
 pub loop-edge-preserved : goal.loop-edge-preserved
 loop-edge-preserved c =
@@ -32,5 +29,5 @@ returns c =
     let found : LeastOf E c.args.v c.args.from c.args.next c.loop-edge.found = subst P e c.loop-edge.invariant in
     record {
       least = found;
-      head = λ F g. least_of_head (accepted s.nodes E s.sound) c.args.v c.args.from c.args.next F c.loop-edge.found g found;
+      head = λ F g. least_of_head (accepted (nodes_of s) E s.sound) c.args.v c.args.from c.args.next F c.loop-edge.found g found;
     }

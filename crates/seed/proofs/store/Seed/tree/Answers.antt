@@ -12,11 +12,11 @@ returns c =
     let s = c.args.self.now in
     let a = accepted (nodes_of s) (edges_of s) s.sound in
     let e : c.len.result ≡ length (edges_of s) = c.len.ensures ∙ s.edges.ok.0 in
-    let one : eqb (c.len.result + 1) s.nodes ≡ true → length (edges_of s) + 1 ≡ nodes_of s =
-    λ t. omega (arith, eqb-true (c.len.result + 1) s.nodes t, e)
+    let one : eqb (c.len.result + 1) c.nodes.result ≡ true → length (edges_of s) + 1 ≡ nodes_of s =
+    λ t. omega (arith, eqb-true (c.len.result + 1) c.nodes.result t, e, c.nodes.ensures)
     in
     record {
-      test = ap (λ z. eqb (z + 1) s.nodes) e;
+      test = ap (λ z. eqb (z + 1) c.nodes.result) e ∙ ap (eqb (length (edges_of s) + 1)) c.nodes.ensures;
       hangs = λ t v l. let first : 0 < nodes_of s = omega arith in all_joined a (one t) 0 v first l;
       paths = λ t. tree a (one t);
       planted = λ t. planted a (one t);

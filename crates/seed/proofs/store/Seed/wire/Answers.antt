@@ -1,34 +1,23 @@
-use Rattle.std.proofs.Common.{◌≡◌, ℕ, ◌+◌, ◌<◌, ◌≤◌, List, length, get_or, take, sym, ap, ◌∙◌, arith}
-use Rattle.std.proofs.lemmas.List.{take_all}
+use Rattle.std.proofs.Common.{rules, ◌≡◌, ◌<◌, ◌^◌, List, sum_by, sym, refl, ◌∙◌, arith}
+use Rattle.std.proofs.lemmas.List.Recursion.{is_sum_by}
 use Rattle.forest.specs.declared.Edge.{Edge}
 use Rattle.forest.specs.Edges.{wire}
-use Rattle.forest.proofs.Accepted.{wire_front, wire_more}
-use Rattle.seed.specs.Seeds.{edge, edges_of}
+use Rattle.forest.proofs.Accepted.{accepted, wire_bound}
+use Rattle.seed.specs.Seeds.{edges_of, nodes_of}
 use Rattle.seed.proofs.store.Seed.wire.Goals as goal
 
--- one more edge: the sum so far and its length
-step : (E D : List Edge) (i s : ℕ) → D ≡ E → i < length D → s ≡ wire (take i E) → (i < length E) × (wire (take (i + 1) E) ≡ s + (get_or D i (edge 0 0 0)).length)
-step E D i s q h m =
-    let l : i < length E = omega (arith, ap length q, h) in
-    let r : (get_or D i (edge 0 0 0)).length ≡ (get_or E i (edge 0 0 0)).length = ap (λ X. (get_or X i (edge 0 0 0)).length) q in
-    (l, omega (arith, wire_more E i (edge 0 0 0) l, r, m))
+wire_sum : (E : List Edge) → wire E ≡ sum_by (λ e. e.length) E
+wire_sum E = is_sum_by wire (λ e. e.length) refl (λ _ _. refl) E
 
-pub overflow_add-sum : goal.overflow_add-sum
-overflow_add-sum c =
+pub sum-requires-clause-fits : goal.sum-requires-clause-fits
+sum-requires-clause-fits c =
     let s = c.args.self.now in
-    let i = c.loop-edge.edge-index in
-    let t = step (edges_of s) c.as_slice-edges.result.now i c.loop-edge.sum c.as_slice-edges.ensures.value c.loop-edge-test.true c.loop-edge.invariant in
-    let le : i + 1 ≤ length (edges_of s) = omega (arith, t.0) in
-    omega (arith, t.1, wire_front s.nodes (edges_of s) s.sound (i + 1) le, le, s.fewer, s.few)
-
-pub loop-edge-preserved : goal.loop-edge-preserved
-loop-edge-preserved c =
-    sym (step (edges_of c.args.self.now) c.as_slice-edges.result.now c.loop-edge.edge-index c.loop-edge.sum c.as_slice-edges.ensures.value c.loop-edge-test.true c.loop-edge.invariant).1
+    let E = edges_of s in
+    let fits : sum_by (λ (e : Edge). e.length) E < 2 ^ 64 = omega (arith, wire_sum E, wire_bound (accepted (nodes_of s) E s.sound), s.fewer, s.few) in
+    search rules
 
 pub returns : goal.returns
 returns c =
     let E = edges_of c.args.self.now in
-    let q = ap length c.as_slice-edges.ensures.value in
-    let e : take c.loop-edge.edge-index E ≡ E = take_all c.loop-edge.edge-index E (omega (arith, q)) in
-    let m : c.loop-edge.sum ≡ wire (take c.loop-edge.edge-index E) = c.loop-edge.invariant in
-    m ∙ ap wire e
+    let total : c.sum.result ≡ sum_by (λ (e : Edge). e.length) E = search rules in
+    total ∙ sym (wire_sum E)

@@ -1,4 +1,4 @@
-use Rattle.std.proofs.Common.{◌≡◌, ◌+◌, ◌-◌, ◌<◌, List, length, vec_items, sym, ap, ◌∙◌, subst, arith}
+use Rattle.std.proofs.Common.{◌≡◌, ◌+◌, ◌-◌, ◌<◌, List, length, sym, ap, ◌∙◌, subst, arith}
 use Rattle.std.proofs.lemmas.Bool.{eqb-false}
 use Rattle.order.specs.declared.link.Link.{Link}
 use Rattle.seed.specs.Seeds.{edges_of}
@@ -12,20 +12,14 @@ loop-init g c =
     let pins = c.args.pins.now in
     let d = lengths g.S.Space c.args.space.now pins in
     let t = c.restart.new.self in
-    let new = c.in_default.ensures in
+    let new = c.in_ok-restart.ensures in
     let some : 0 < length pins = omega (arith, eqb-false _ _ (sym c.is_empty.ensures ∙ c.if-is_empty.false)) in
     let P : List Link → Type 0 = λ F. Growing (length pins) d t F in
-    (subst P (sym c.start.ensures.items) (start_grows (length pins) d t (length pins - 1) (omega arith) new.2 new.1), omega (arith, ap length new.1))
-
-pub loop-preserved : goal.loop-preserved
-loop-preserved g c =
-    let more : length (edges_of c.loop.seed) + 1 < length c.args.pins.now = omega (arith, c.loop.invariant.1) in
-    let next = c.step.ensures.grown c.loop.invariant.0 more in
-    (next.0, omega (arith, next.1, c.loop.invariant.1))
+    (subst P (sym c.start.ensures) (start_grows (length pins) d t (length pins - 1) (omega arith) new.2 new.1), omega (arith, ap length new.1))
 
 pub returns : goal.returns
 returns g c =
     let pins = c.args.pins.now in
     let some : 0 < length pins = omega (arith, eqb-false _ _ (sym c.is_empty.ensures ∙ c.if-is_empty.false)) in
     let all : length (edges_of c.loop.seed) + 1 ≡ length pins = omega (arith, c.loop.invariant.1, c.loop.auto.counter-end some) in
-    spans g.S.Space c.args.space.now (g.met.S.Space.metric c.args.space.now) pins c.loop.seed (vec_items c.loop.self.links) c.wire.result some c.in_default.ensures.0 c.loop.invariant.0 all c.wire.ensures
+    spans g.S.Space c.args.space.now (g.met.S.Space.metric c.args.space.now) pins c.loop.seed c.loop.self.links.outside.items c.wire.result some c.in_ok-restart.ensures.0 c.loop.invariant.0 all c.wire.ensures

@@ -1,4 +1,4 @@
-use Rattle.std.proofs.Common.{◌≡◌, ◌+◌, length, vec_items}
+use Rattle.std.proofs.Common.{◌≡◌, ◌+◌, length}
 use Rattle.seed.specs.Seeds.{edges_of}
 use Rattle.span.specs.Grown.{Growing}
 use Rattle.span.specs.Lengths.{lengths}
@@ -6,5 +6,5 @@ use Rattle.span.proofs.growing.Spanner.grow.Given as goal
 
 abbrev pub invariant-loop : goal.invariant-loop
 invariant-loop g l =
-    Growing (length l.pins) (lengths g.S.Space l.space l.pins) l.seed (vec_items l.self.links)
+    Growing (length l.pins) (lengths g.S.Space l.space l.pins) l.seed l.self.links.outside.items
     × (length (edges_of l.seed) + 1 ≡ l.counter)

@@ -1,0 +1,16 @@
+use Rattle.std.proofs.Common.{◌≡◌, map, filter, ap, ◌∙◌}
+use Rattle.span.specs.Lengths.{lengths}
+use Rattle.span.specs.Spanning.{elsewhere, offered}
+use Rattle.span.proofs.Grows.{lengths_fair, step_grows, step_none}
+use Rattle.span.proofs.growing.Spanner.step.Goals as goal
+
+pub returns-in_default : goal.returns-in_default
+returns-in_default g c gr more = absurd (step_none _ _ c.args.seed.now c.args.self.now.links.outside.items c.in_default.ensures gr more)
+
+pub returns : goal.returns
+returns g c gr more =
+    let d = lengths g.S.Space c.args.space.now c.args.pins.now in
+    let F = c.args.self.now.links.outside.items in
+    let w = c.in-Some.nearest in
+    let links : c.offer.new.self.outside.items ≡ map (offered d w.v) (filter (elsewhere w.v) F) = c.offer.ensures ∙ ap (map (offered d w.v)) c.forget.ensures in
+    step_grows _ d (lengths_fair g.S.Space c.args.space.now c.args.pins.now) c.args.seed.now c.join.new.self F gr w c.in-Some.ensures c.join.result c.join.ensures c.offer.new.self.outside.items links

@@ -1,0 +1,19 @@
+use Rattle.std.proofs.Common.{◌≡◌, ◌<◌, length, get_or, set, ap, ◌∙◌, arith}
+use Rattle.std.proofs.lemmas.List.{get_or_default}
+use Rattle.std.proofs.lemmas.List.Edits.{map_over_more}
+use Rattle.order.specs.declared.link.Link.{Link}
+use Rattle.span.specs.Lengths.{lengths}
+use Rattle.span.specs.Spanning.{better, offered}
+use Rattle.span.proofs.links.Links.offer.Goals as goal
+
+pub loop-old-preserved : goal.loop-old-preserved
+loop-old-preserved g c =
+    let f = offered (lengths g.S.Space c.args.space.now c.args.pins.now) c.args.u in
+    let xs = c.deref_mut-old-items.result.now in
+    let ys = c.loop-old.old-items in
+    let i = c.loop-old.old-index in
+    let none : Link = record { length = 0; u = 0; v = 0 } in
+    let x : Link = get_or ys i none in
+    let h : i < length xs = omega (arith, c.loop-old-test.true) in
+    let value : c.nearer.result ≡ f x = c.nearer.ensures ∙ ap (better x) c.link.ensures in
+    ap (set ys i) value ∙ map_over_more f xs ys i x h c.loop-old.invariant (get_or_default ys i none x (omega (arith, h, c.loop-old.auto.old-items)))
