@@ -1,5 +1,5 @@
 -- Members of a list that grows or shrinks. Assumes nothing.
-use Rattle.std.proofs.Common.{◌≡◌, ℕ, ◌+◌, ◌<◌, ◌≤◌, Bool, true, false, cond, not, eqb, ◌⊎◌, List, [], ◌∷◌, length, get_or, take, filter, sym, refl, ap, subst, inl, inr, ⊎_elim, arith}
+use Rattle.std.proofs.Common.{◌≡◌, ℕ, suc, ◌+◌, ◌<◌, ◌≤◌, Bool, true, false, cond, not, eqb, ◌⊎◌, List, [], ◌∷◌, length, get_or, take, filter, sym, refl, ap, subst, inl, inr, ⊎_elim, arith}
 use Rattle.std.proofs.lemmas.List.{get_or_default, take_more}
 use Rattle.std.proofs.lemmas.Bool.{and_from, and_left, and_parts, and_right, cases_Bool, cond-false, cond-true, eq-eqb, eqb-false, ne_eqb, not_from_false, not_from_true, not-true}
 use Rattle.order.specs.Firsts.{Among}
@@ -18,6 +18,12 @@ among_next {X} xs i y h x m =
 
 pub among_here : {X : Type 0} (xs : List X) (i : ℕ) (y : X) → i < length xs → Among (get_or xs i y) xs
 among_here xs i y h = among_at xs i (get_or xs i y) h (get_or_default xs i y (get_or xs i y) h)
+
+-- what stands in a list stands at a place
+pub among_place : (xs : List ℕ) (x : ℕ) → Among x xs → (i : ℕ) × (i < length xs) × (x ≡ get_or xs i 0)
+among_place [] x m = elim m [ ]
+among_place (y ∷ xs) x here = (0, omega arith, refl)
+among_place (y ∷ xs) x (there m) = let k = among_place xs x m in (suc k.0, omega (arith, k.1), k.2)
 
 -- what passes stays
 pub kept_among : (p : ℕ → Bool) (xs : List ℕ) (x : ℕ) → Among x xs → p x ≡ true → Among x (filter p xs)

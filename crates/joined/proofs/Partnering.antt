@@ -1,18 +1,19 @@
 -- The first of the pairs of one member, and the firsts of all members. Assumes nothing.
-use Rattle.std.proofs.Common.{◌≡◌, ℕ, ◌+◌, ◌<◌, ◌≤◌, Bool, true, false, cond, ltb, ◌⊎◌, List, [], ◌∷◌, ◌++◌, length, get_or, take, Some, None, Option, sym, refl, ap, ◌∙◌, subst, inl, inr, ⊎_elim, arith}
+use Rattle.std.proofs.Common.{◌≡◌, ℕ, ◌<◌, ◌≤◌, Bool, true, false, cond, ltb, ◌⊎◌, List, [], ◌∷◌, ◌++◌, length, Some, None, Option, sym, refl, ap, ◌∙◌, subst, inl, inr, ⊎_elim, arith}
 use Rattle.std.proofs.lemmas.Bool.{both_ways, cases_Bool, cond-true, ltb-false}
 use Rattle.order.specs.Orders.{then_by}
 use Rattle.order.specs.Firsts.{Among, FirstOf}
-use Rattle.order.specs.Firsts.Among.{here}
-use Rattle.order.proofs.Finding.{among_either, among_left, among_none, among_one, among_right, never_itself}
+use Rattle.order.specs.Firsts.Among.{here, there}
+use Rattle.std.specs.List.Retain.{RetainsInTurn}
+use Rattle.order.proofs.Finding.{among_either, among_left, among_none, among_one, among_right}
 use Rattle.space.specs.declared.spot.Spot.{Spot}
 use Rattle.tree_laws.specs.declared.Row.{Row}
-use Rattle.tree.specs.Bests.{BestOf, Decides}
-use Rattle.tree.proofs.Deciding.{decides_first, decides_none, decides_push}
+use Rattle.order.specs.Bests.{BestOf, Decides}
+use Rattle.order.proofs.Deciding.{decides_first}
 use Rattle.build_laws.specs.Joining.{Farthest, PairOf, far_of}
 use Rattle.joined.specs.declared.pair.Pair.{Pair}
-use Rattle.joined.specs.Pairs.{Again, Firsts, FirstsOf, Held, Lasting, PairIn, Partner, Ready, pair_before, pair_of}
-use Rattle.joined.proofs.Keeping.{among_next}
+use Rattle.joined.specs.Pairs.{Again, Firsts, FirstsOf, Held, Lasting, PairIn, Partner, PartnerAt, Ready, Stale, pair_before, pair_of}
+use Rattle.joined.proofs.Keeping.{among_here, among_place}
 use Rattle.joined.specs.Orders.{pair_order, same_pair}
 
 -- what does not come first is not less
@@ -26,43 +27,30 @@ then_lead a b r h =
 module _ (d : Spot → Spot → ℕ) (j : Spot → Spot → Spot → Spot) (rows : List Row) where
   -- ---- the pairs of one member
 
-  pub partner_none : (b : ℕ) → Decides pair_before (Partner d j rows [] b) []
-  partner_none b = decides_none pair_before (Partner d j rows [] b) (λ m q. among_none q.member)
+  -- the member at a place is a member, and every member has a place
+  pub partner_every : (group : List ℕ) (b i : ℕ) (p : Pair) → PartnerAt d j rows group b i p → Partner d j rows group b p
+  partner_every group b i p q =
+      let P : ℕ → Type 0 = λ x. Among x group in
+      let e : p.b ≡ b = ap (λ (z : Pair). z.b) q.is in
+      record {
+        member = subst P (sym q.member) (among_here group i 0 q.place);
+        lower = q.lower;
+        second = e;
+        long = ap (λ (z : Pair). z.far) q.is ∙ ap (far_of d j rows p.a) (sym e);
+      }
 
-  module _ (xs : List ℕ) (x b : ℕ) where
-    partner_left : (p : Pair) → Partner d j rows xs b p → Partner d j rows (xs ++ x ∷ []) b p
-    partner_left p q = record { member = among_left xs (x ∷ []) q.member; lower = q.lower; second = q.second; long = q.long }
-
-    partner_split : (p : Pair) → Partner d j rows (xs ++ x ∷ []) b p → Partner d j rows xs b p ⊎ (p.a ≡ x)
-    partner_split p q =
-        ⊎_elim
-        (λ (i : Among p.a xs). inl (record { member = i; lower = q.lower; second = q.second; long = q.long }))
-        (λ (i : Among p.a (x ∷ [])). inr (among_one i))
-        (among_either xs (x ∷ []) q.member)
-
-    pub partner_same : (F : List Pair) → Decides pair_before (Partner d j rows xs b) F → b ≤ x → Decides pair_before (Partner d j rows (xs ++ x ∷ []) b) F
-    partner_same F c h =
+  pub partner_number : (group : List ℕ) (b : ℕ) (p : Pair) → Partner d j rows group b p → (i : ℕ) × (i < length group) × PartnerAt d j rows group b i p
+  partner_number group b p q =
+      let k = among_place group p.a q.member in (
+        k.0,
+        k.1,
         record {
-          within = λ m i. partner_left m (c.within m i);
-          beaten = λ m q. ⊎_elim (λ (r : Partner d j rows xs b m). c.beaten m r) (λ (e : m.a ≡ x). absurd (omega (arith, q.lower))) (partner_split m q);
-        }
-
-    pub partner_push : (F : List Pair) → Decides pair_before (Partner d j rows xs b) F → x < b → Decides pair_before (Partner d j rows (xs ++ x ∷ []) b) (F ++ pair_of d j rows x b ∷ [])
-    partner_push F c h =
-        let w = pair_of d j rows x b in
-        decides_push pair_before (Partner d j rows xs b) (λ m. m ≡ w) (Partner d j rows (xs ++ x ∷ []) b) partner_left
-        (λ m e.
-        let P : Pair → Type 0 = λ y. Partner d j rows (xs ++ x ∷ []) b y in
-        subst P (sym e) (record { member = among_right xs (x ∷ []) here; lower = h; second = refl; long = refl }))
-        (λ m q.
-        ⊎_elim
-        (λ (r : Partner d j rows xs b m). inl r)
-        (λ (e : m.a ≡ x). inr (same_pair m w (q.long ∙ ap (λ y. far_of d j rows y m.b) e ∙ ap (far_of d j rows x) q.second) e q.second))
-        (partner_split m q))
-        F c w (refl, λ n e. let P : Pair → Type 0 = λ y. pair_before y w ≡ false in subst P (sym e) (never_itself pair_order w))
-
-  pub partner_best : (group : List ℕ) (b : ℕ) (F : List Pair) (r : Option Pair) → Decides pair_before (Partner d j rows group b) F → FirstOf pair_before F r → BestOf pair_before (Partner d j rows group b) r
-  partner_best group b F r c f = decides_first pair_order (Partner d j rows group b) F r c f
+          place = k.1;
+          member = k.2;
+          lower = q.lower;
+          is = same_pair p (pair_of d j rows p.a b) (q.long ∙ ap (far_of d j rows p.a) q.second) refl q.second;
+        },
+      )
 
   -- ---- the firsts of several members
 
@@ -105,30 +93,46 @@ module _ (d : Spot → Spot → ℕ) (j : Spot → Spot → Spot → Spot) (rows
 
   -- ---- the firsts once a and b have gone
 
-  module _ (group : List ℕ) (a b : ℕ) (olds : List Pair) (i : ℕ) (o : Pair) (h : i < length olds) (F : List Pair) (f : FirstsOf d j rows group (Lasting d j a b (take i olds)) F) where
-    abbrev old : Pair
-    old = get_or olds i o
+  -- each old pair was kept as `Again` says, or left out
+  module _ {S : Type 0} (group : List ℕ) (a b : ℕ) (R : S → Pair → Bool → S → Pair → Type 0) (f : S) (each : (x : Pair) (k : Bool) (t : S) (y : Pair) → R f x k t y → (t ≡ f) × (Stale d j rows group a b x → Again d j rows group a b x (cond k (Some y) None))) where
+    pub renewed : (olds F : List Pair) → RetainsInTurn R f olds F → ((x : Pair) → Among x olds → Stale d j rows group a b x) → FirstsOf d j rows group (Lasting d j a b olds) F
+    renewed [] F e stale =
+        let P : List Pair → Type 0 = λ xs. FirstsOf d j rows group (Lasting d j a b []) xs in
+        subst P (sym e) (firsts_none group (Lasting d j a b []) (λ x i. among_none i.1))
+    renewed (x ∷ xs) F (k, t, y, q, zs, rest, e) stale =
+        let s = each x k t y q in
+        let Q : S → Type 0 = λ u. RetainsInTurn R u xs zs in
+        let P : List Pair → Type 0 = λ ys. FirstsOf d j rows group (Lasting d j a b (x ∷ xs)) ys in
+        let more = renewed xs zs (subst Q s.0 rest) (λ z i. stale z (there i)) in
+        subst P (sym e) (next k (s.1 (stale x here)) more)
+      where
+        last : (z : ℕ) → Lasting d j a b (x ∷ xs) z → Lasting d j a b xs z ⊎ (z ≡ x.b)
+        last z (old, here, u, v, w) = inr (sym u)
+        last z (old, there i, u, v, w) = inl (old, i, u, v, w)
 
-    lasting_next : (x : ℕ) → Lasting d j a b (take (i + 1) olds) x → Lasting d j a b (take i olds) x ⊎ (x ≡ old.b)
-    lasting_next x y =
-        ⊎_elim
-        (λ (k : Among y.0 (take i olds)). inl (y.0, k, y.2, y.3, y.4))
-        (λ (e : y.0 ≡ old). inr (sym y.2 ∙ ap (λ (z : Pair). z.b) e))
-        (among_next olds i o h y.0 y.1)
-
-    pub renew_none : Again d j rows group a b old None → FirstsOf d j rows group (Lasting d j a b (take (i + 1) olds)) F
-    renew_none g =
-        record {
-          each = f.each;
-          all = λ x y p q.
-              ⊎_elim
-              (λ (z : Lasting d j a b (take i olds) x). f.all x z p q)
-              (λ (e : x ≡ old.b). let P : ℕ → Type 0 = λ n. Partner d j rows group n p in absurd (g (λ k. y.3 (e ∙ k)) (λ k. y.4 (e ∙ k)) p (subst P e q)))
-              (lasting_next x y);
-        }
-
-    pub renew_some : (w : Pair) → Again d j rows group a b old (Some w) → FirstsOf d j rows group (Lasting d j a b (take (i + 1) olds)) (F ++ w ∷ [])
-    renew_some w g = firsts_push group (Lasting d j a b (take i olds)) (Lasting d j a b (take (i + 1) olds)) old.b (λ x y p q. lasting_next x y) F f w g.0 g.1
+        next : (k : Bool) → Again d j rows group a b x (cond k (Some y) None) → FirstsOf d j rows group (Lasting d j a b xs) zs → FirstsOf d j rows group (Lasting d j a b (x ∷ xs)) (cond k (y ∷ zs) zs)
+        next true g f =
+            record {
+              each = λ p i.
+                  ⊎_elim
+                  (λ (o : Among p (y ∷ [])). subst (Held d j rows group) (sym (among_one o)) g.0)
+                  (λ (o : Among p zs). f.each p o)
+                  (among_either (y ∷ []) zs i);
+              all = λ n l p q.
+                  ⊎_elim
+                  (λ (o : Lasting d j a b xs n). let r = f.all n o p q in (r.0, there r.1, r.2))
+                  (λ (o : n ≡ x.b). (y, here, g.1 ∙ sym o))
+                  (last n l);
+            }
+        next false g f =
+            record {
+              each = f.each;
+              all = λ n l p q.
+                  ⊎_elim
+                  (λ (o : Lasting d j a b xs n). f.all n o p q)
+                  (λ (o : n ≡ x.b). let P : ℕ → Type 0 = λ m. Partner d j rows group m p in absurd (g (λ h. l.3 (o ∙ h)) (λ h. l.4 (o ∙ h)) p (subst P o q)))
+                  (last n l);
+            }
 
   module _ (group : List ℕ) (a b new : ℕ) (olds : List Pair) (r : Ready d j rows group a b new olds) (F : List Pair) (f : FirstsOf d j rows group (Lasting d j a b olds) F) where
     turned : (x : ℕ) → Among x group → (p : Pair) → Partner d j rows group x p → Lasting d j a b olds x ⊎ (x ≡ new)

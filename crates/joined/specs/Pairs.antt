@@ -1,11 +1,11 @@
 -- Pairs of members of a group of rows on the driver, and the first pair of each member. `d` is the distance of two spots, and `j o a b` the meet
 -- of a and b seen from o. Assumes nothing.
-use Rattle.std.specs.Prelude.{◌≡◌, ℕ, ◌<◌, Bool, ◌⊎◌, List, length, Some, None, Option, ◌≢◌, nat_lt}
+use Rattle.std.specs.Prelude.{◌≡◌, ℕ, ◌<◌, Bool, ◌⊎◌, List, length, Some, None, Option, ◌≢◌, nat_lt, slice_index}
 use Rattle.order.specs.Firsts.{Among}
 use Rattle.order.specs.Orders.{then_by}
 use Rattle.space.specs.declared.spot.Spot.{Spot}
 use Rattle.tree_laws.specs.declared.Row.{Row}
-use Rattle.tree.specs.Bests.{BestOf}
+use Rattle.order.specs.Bests.{BestOf}
 use Rattle.build_laws.specs.Joining.{PairOf, far_of}
 use Rattle.joined.specs.declared.pair.Pair.{Pair}
 
@@ -29,6 +29,13 @@ module _ (d : Spot → Spot → ℕ) (j : Spot → Spot → Spot → Spot) where
     pub lower : p.a < b
     pub second : p.b ≡ b
     pub long : p.far ≡ far_of d j rows p.a p.b
+
+  -- p is the pair of b with the member at the place i, where that is lower.
+  pub record PartnerAt (rows : List Row) (group : List ℕ) (b i : ℕ) (p : Pair) : Type 0 where
+    pub place : i < length group
+    pub member : p.a ≡ slice_index group i
+    pub lower : p.a < b
+    pub is : p ≡ pair_of rows p.a b
 
   -- p is the first of the pairs of a member with lower ones.
   pub record Held (rows : List Row) (group : List ℕ) (p : Pair) : Type 0 where

@@ -6,25 +6,20 @@ ghost use Rattle.share.specs.Shares.{join_of};
 ghost use Rattle.joined.specs.Joinings.{Asked, Joinable, JoinedBy, Standing, Stepped, others};
 
 use crate::pair::Pair;
-use crate::partners::{renew, start};
+use crate::partners::{Change, Group};
 use order::first;
 use share::{hangs, part};
 use space::Joining;
 use std::alloc::{AllocError, Global};
-use std::mem::swap;
 use tree::{ROWS, Table};
 
-/// The memory for joining, reserved once: the group, the first pair of each member, and what a search and a step write anew.
+/// The memory for joining, reserved once: the group, and the first pair of each member.
 #[derive(Drop)]
 pub struct Joiner {
     group: Vec<usize>,
     partners: Vec<Pair>,
-    spare: Vec<Pair>,
-    candidates: Vec<Pair>,
     ghost members: { 768 ≤ vec_capacity group },
     ghost kept: { 768 ≤ vec_capacity partners },
-    ghost other: { 768 ≤ vec_capacity spare },
-    ghost wide: { 768 ≤ vec_capacity candidates },
 }
 
 /// Whether the members are rows that hang on the driver, in rising order, with room for a new row for each.
@@ -34,13 +29,12 @@ fn joinable(table: &Table, members: &[usize]) -> bool
     if members.len() > ROWS - table.len() {
         return false;
     }
-    for i in 0..members.len() {
-        if !hangs(table, 0, members[i]) {
+    let mut last = 0;
+    for &member in members {
+        if !hangs(table, 0, member) || member <= last {
             return false;
         }
-        if i > 0 && members[i - 1] >= members[i] {
-            return false;
-        }
+        last = member;
     }
     true
 }
@@ -50,15 +44,7 @@ fn leave(group: &mut Vec<usize>, a: usize, b: usize)
     ensures items { group.new.items ≡ filter (others a b) group.old.items }
     ensures room { vec_capacity group.new ≡ vec_capacity group.old }
 {
-    let mut filled = 0;
-    for i in 0..group.len() {
-        let member = group[i];
-        if member != a && member != b {
-            group[filled] = member;
-            filled += 1;
-        }
-    }
-    group.truncate(filled);
+    group.retain(|&member| member != a && member != b);
 }
 
 /// Makes the members the group.
@@ -69,8 +55,9 @@ fn fill(group: &mut Vec<usize>, members: &[usize])
     ensures room { vec_capacity group.new ≡ vec_capacity group.old }
 {
     group.clear();
-    for i in 0..members.len() {
-        group.push_reserved(members[i]);
+    // Kept: `extend_from_slice` may allocate (fixed memory is a rule of this engine).
+    for &member in members {
+        group.push_reserved(member);
     }
 }
 
@@ -79,14 +66,7 @@ impl Joiner {
     pub fn new(heap: Global) -> Result<Joiner, AllocError> {
         let group = Vec::with_capacity(heap, ROWS)?;
         let partners = Vec::with_capacity(heap, ROWS)?;
-        let spare = Vec::with_capacity(heap, ROWS)?;
-        let candidates = Vec::with_capacity(heap, ROWS)?;
-        Ok(Joiner {
-            group,
-            partners,
-            spare,
-            candidates,
-        })
+        Ok(Joiner { group, partners })
     }
 
     /// Makes the members the group and finds the first pair of each.
@@ -96,16 +76,16 @@ impl Joiner {
         ensures members { self.new.group.items ≡ members.now }
     {
         fill(&mut self.group, members);
-        start(
+        let group = Group {
             space,
             table,
-            self.group.as_slice(),
-            &mut self.partners,
-            &mut self.candidates,
-        );
+            members: self.group.as_slice(),
+        };
+        group.start(&mut self.partners);
     }
 
     /// Joins the first pair of all, and answers whether there is one whose meet is not the driver's own spot.
+    // Kept: a plain yes or no, which the loop in `run` asks; an `Option<()>` would say no more.
     fn step<S: Joining>(&mut self, space: &S, table: &mut Table) -> bool
         requires { Standing (reach_of S.Space space.now) (join_of S.Space S.Joining.own space.now) (rows_of table.old) self.old.group.items self.old.partners.items }
         ensures { Stepped (reach_of S.Space space.now) (join_of S.Space S.Joining.own space.now) (rows_of table.old) self.old.group.items result (rows_of table.new) self.new.group.items self.new.partners.items }
@@ -119,20 +99,15 @@ impl Joiner {
         let Some(new) = part(space, table, 0, pair.a, pair.b) else {
             return false;
         };
-        leave(&mut self.group, pair.a, pair.b);
+        let Pair { a, b, .. } = pair;
+        leave(&mut self.group, a, b);
         self.group.push_reserved(new);
-        swap(&mut self.partners, &mut self.spare);
-        renew(
+        let group = Group {
             space,
-            table,
-            self.group.as_slice(),
-            self.spare.as_slice(),
-            &mut self.partners,
-            &mut self.candidates,
-            pair.a,
-            pair.b,
-            new,
-        );
+            table: &*table,
+            members: self.group.as_slice(),
+        };
+        group.renew(Change { a, b, new }, &mut self.partners);
         true
     }
 
@@ -142,7 +117,7 @@ impl Joiner {
         requires turns { length self.old.group.items ≤ turns }
         ensures { Joins (reach_of S.Space space.now) (join_of S.Space S.Joining.own space.now) (rows_of table.old) self.old.group.items (rows_of table.new) }
     {
-        for turn in 0..turns {
+        for _ in 0..turns {
             if !self.step(space, table) {
                 return;
             }

@@ -1,11 +1,11 @@
-ghost use Rattle.std.specs.Prelude.{◌≡◌};
 ghost use Rattle.joined.specs.Pairs.{pair_before};
 ghost use Rattle.joined.specs.Orders.{pair_order};
 
 use order::Rank;
+use std::cmp::Reverse;
 
 /// Two members of the group and how far from the driver their meet is: the farther first, then the lower a, then the lower b.
-#[derive(Clone, Copy)]
+#[derive(Clone, Copy, Debug, PartialEq, Eq)]
 pub struct Pair {
     pub far: u64,
     pub a: usize,
@@ -18,12 +18,6 @@ impl Rank for Pair {
     ghost order = { pair_order };
 
     fn precedes(&self, other: &Pair) -> bool {
-        if self.far != other.far {
-            self.far > other.far
-        } else if self.a != other.a {
-            self.a < other.a
-        } else {
-            self.b < other.b
-        }
+        (Reverse(self.far), self.a, self.b) < (Reverse(other.far), other.a, other.b)
     }
 }

@@ -1,127 +1,117 @@
 // The first partner of each member of the group.
-ghost use Rattle.std.specs.Prelude.{◌≡◌, ◌+◌, ◌<◌, ◌≤◌, length, vec_capacity};
-ghost use Rattle.tree.specs.Bests.{BestOf};
+ghost use Rattle.std.specs.Prelude.{◌≡◌, ◌+◌, ◌<◌, ◌≤◌, cond, length, vec_capacity};
+ghost use Rattle.order.specs.Bests.{BestOf};
 ghost use Rattle.tree.specs.Hooks.{reach_of};
 ghost use Rattle.tree.specs.Tables.{rows_of};
 ghost use Rattle.share.specs.Shares.{join_of};
-ghost use Rattle.joined.specs.Pairs.{Again, Firsts, Partner, Ready, Stale, pair_before, pair_of};
+ghost use Rattle.joined.specs.Pairs.{Again, Firsts, Partner, PartnerAt, Ready, Stale, pair_before, pair_of};
 
 use crate::pair::Pair;
-use order::first;
+use order::first_found;
 use share::join;
 use space::Joining;
 use tree::{Table, reach};
 
-/// The pair of two rows.
-fn pair<S: Joining>(space: &S, table: &Table, a: usize, b: usize) -> Pair
-    ensures { result ≡ pair_of (reach_of S.Space space.now) (join_of S.Space S.Joining.own space.now) (rows_of table.now) a b }
-{
-    let driver = table.at(0).spot;
-    let meet = join(space, driver, table.at(a).spot, table.at(b).spot);
-    let far = reach(space, driver, meet);
-    Pair { far, a, b }
+/// The members of a group, the table of their rows, and the space that measures it.
+#[derive(Drop)]
+pub(crate) struct Group<'a, S: Joining> {
+    pub space: &'a S,
+    pub table: &'a Table,
+    pub members: &'a [usize],
+    ghost few: { length members.now ≤ 768 },
 }
 
-/// The first of the pairs of `b` with a lower member.
-fn first_of<S: Joining>(
-    space: &S,
-    table: &Table,
-    group: &[usize],
-    candidates: &mut Vec<Pair>,
-    b: usize,
-) -> Option<Pair>
-    requires few { length group.now ≤ 768 }
-    requires room { 768 ≤ vec_capacity candidates.old }
-    ensures best { BestOf pair_before (Partner (reach_of S.Space space.now) (join_of S.Space S.Joining.own space.now) (rows_of table.now) group.now b) result }
-    ensures room { vec_capacity candidates.new ≡ vec_capacity candidates.old }
-{
-    candidates.clear();
-    for i in 0..group.len() {
-        let a = group[i];
-        if a < b {
-            candidates.push_reserved(pair(space, table, a, b));
+/// What a step does to the group: the members `a` and `b` go, and `new` comes.
+#[derive(Clone, Copy)]
+pub(crate) struct Change {
+    pub a: usize,
+    pub b: usize,
+    pub new: usize,
+}
+
+impl<'a, S: Joining> Group<'a, S> {
+    /// The pair of two rows.
+    fn pair(&self, a: usize, b: usize) -> Pair
+        ensures { result ≡ pair_of (reach_of S.Space self.now.space.now) (join_of S.Space S.Joining.own self.now.space.now) (rows_of self.now.table.now) a b }
+    {
+        let driver = self.table.at(0).spot;
+        let one = self.table.at(a).spot;
+        let two = self.table.at(b).spot;
+        let meet = join(self.space, driver, one, two);
+        let far = reach(self.space, driver, meet);
+        Pair { far, a, b }
+    }
+
+    /// The pair of `b` with the member at the place `i`, where that is lower.
+    fn partner(&self, i: usize, b: usize) -> Option<Pair>
+        requires { i < length self.now.members.now }
+        ensures { BestOf pair_before (PartnerAt (reach_of S.Space self.now.space.now) (join_of S.Space S.Joining.own self.now.space.now) (rows_of self.now.table.now) self.now.members.now b i) result }
+    {
+        let a = self.members[i];
+        if a >= b {
+            return None;
+        }
+        Some(self.pair(a, b))
+    }
+
+    /// The first of the pairs of `b` with a lower member.
+    fn first_of(&self, b: usize) -> Option<Pair>
+        ensures { BestOf pair_before (Partner (reach_of S.Space self.now.space.now) (join_of S.Space S.Joining.own self.now.space.now) (rows_of self.now.table.now) self.now.members.now b) result }
+    {
+        first_found(self.members.len(), |i| self.partner(i, b))
+    }
+
+    /// The first pair of each member that has a lower one.
+    pub fn start(&self, partners: &mut Vec<Pair>)
+        requires { 768 ≤ vec_capacity partners.old }
+        ensures firsts { Firsts (reach_of S.Space self.now.space.now) (join_of S.Space S.Joining.own self.now.space.now) (rows_of self.now.table.now) self.now.members.now partners.new.items }
+        ensures few { length partners.new.items ≤ length self.now.members.now }
+        ensures room { vec_capacity partners.new ≡ vec_capacity partners.old }
+    {
+        partners.clear();
+        for &member in self.members {
+            if let Some(found) = self.first_of(member) {
+                partners.push_reserved(found);
+            }
         }
     }
-    first(candidates.as_slice())
-}
 
-/// The first pair of each member that has a lower one.
-pub(crate) fn start<S: Joining>(
-    space: &S,
-    table: &Table,
-    group: &[usize],
-    partners: &mut Vec<Pair>,
-    candidates: &mut Vec<Pair>,
-)
-    requires few { length group.now ≤ 768 }
-    requires partners { 768 ≤ vec_capacity partners.old }
-    requires candidates { 768 ≤ vec_capacity candidates.old }
-    ensures firsts { Firsts (reach_of S.Space space.now) (join_of S.Space S.Joining.own space.now) (rows_of table.now) group.now partners.new.items }
-    ensures few { length partners.new.items ≤ length group.now }
-    ensures partners { vec_capacity partners.new ≡ vec_capacity partners.old }
-    ensures candidates { vec_capacity candidates.new ≡ vec_capacity candidates.old }
-{
-    partners.clear();
-    for i in 0..group.len() {
-        if let Some(found) = first_of(space, table, group, candidates, group[i]) {
+    /// The first pair of a member after a step: nothing where the member has gone, searched anew where its partner has, else as it was.
+    fn again(&self, old: Pair, change: Change) -> Option<Pair>
+        ensures { Stale (reach_of S.Space self.now.space.now) (join_of S.Space S.Joining.own self.now.space.now) (rows_of self.now.table.now) self.now.members.now change.a change.b old → Again (reach_of S.Space self.now.space.now) (join_of S.Space S.Joining.own self.now.space.now) (rows_of self.now.table.now) self.now.members.now change.a change.b old result }
+    {
+        let Change { a, b, .. } = change;
+        if old.b == a || old.b == b {
+            return None;
+        }
+        if old.a == a || old.a == b {
+            return self.first_of(old.b);
+        }
+        Some(old)
+    }
+
+    /// Makes the first pair of a member what it is after a step, and answers whether there is one.
+    fn refresh(&self, pair: &mut Pair, change: Change) -> bool
+        ensures { Stale (reach_of S.Space self.now.space.now) (join_of S.Space S.Joining.own self.now.space.now) (rows_of self.now.table.now) self.now.members.now change.a change.b pair.old → Again (reach_of S.Space self.now.space.now) (join_of S.Space S.Joining.own self.now.space.now) (rows_of self.now.table.now) self.now.members.now change.a change.b pair.old (cond result (Some pair.new) None) }
+    {
+        let Some(kept) = self.again(*pair, change) else {
+            return false;
+        };
+        *pair = kept;
+        true
+    }
+
+    /// Makes the first pairs of the members before a step those after it.
+    pub fn renew(&self, change: Change, partners: &mut Vec<Pair>)
+        requires room { 768 ≤ vec_capacity partners.old }
+        requires ready { Ready (reach_of S.Space self.now.space.now) (join_of S.Space S.Joining.own self.now.space.now) (rows_of self.now.table.now) self.now.members.now change.a change.b change.new partners.old.items }
+        ensures firsts { Firsts (reach_of S.Space self.now.space.now) (join_of S.Space S.Joining.own self.now.space.now) (rows_of self.now.table.now) self.now.members.now partners.new.items }
+        ensures few { length partners.new.items ≤ length partners.old.items + 1 }
+        ensures room { vec_capacity partners.new ≡ vec_capacity partners.old }
+    {
+        partners.retain_mut(|pair| self.refresh(pair, change));
+        if let Some(found) = self.first_of(change.new) {
             partners.push_reserved(found);
         }
-    }
-}
-
-/// The first pair of a member, once `a` and `b` are gone: nothing where the member is gone, searched anew where its partner is, else as it was.
-fn again<S: Joining>(
-    space: &S,
-    table: &Table,
-    group: &[usize],
-    candidates: &mut Vec<Pair>,
-    old: Pair,
-    a: usize,
-    b: usize,
-) -> Option<Pair>
-    requires few { length group.now ≤ 768 }
-    requires room { 768 ≤ vec_capacity candidates.old }
-    requires stale { Stale (reach_of S.Space space.now) (join_of S.Space S.Joining.own space.now) (rows_of table.now) group.now a b old }
-    ensures again { Again (reach_of S.Space space.now) (join_of S.Space S.Joining.own space.now) (rows_of table.now) group.now a b old result }
-    ensures room { vec_capacity candidates.new ≡ vec_capacity candidates.old }
-{
-    if old.b == a || old.b == b {
-        return None;
-    }
-    if old.a == a || old.a == b {
-        return first_of(space, table, group, candidates, old.b);
-    }
-    Some(old)
-}
-
-/// The first pair of each member that has a lower one, where `a` and `b` are gone and `new` has come.
-pub(crate) fn renew<S: Joining>(
-    space: &S,
-    table: &Table,
-    group: &[usize],
-    olds: &[Pair],
-    partners: &mut Vec<Pair>,
-    candidates: &mut Vec<Pair>,
-    a: usize,
-    b: usize,
-    new: usize,
-)
-    requires few { length group.now ≤ 768 }
-    requires partners { 768 ≤ vec_capacity partners.old }
-    requires candidates { 768 ≤ vec_capacity candidates.old }
-    requires ready { Ready (reach_of S.Space space.now) (join_of S.Space S.Joining.own space.now) (rows_of table.now) group.now a b new olds.now }
-    ensures firsts { Firsts (reach_of S.Space space.now) (join_of S.Space S.Joining.own space.now) (rows_of table.now) group.now partners.new.items }
-    ensures few { length partners.new.items ≤ length olds.now + 1 }
-    ensures partners { vec_capacity partners.new ≡ vec_capacity partners.old }
-    ensures candidates { vec_capacity candidates.new ≡ vec_capacity candidates.old }
-{
-    partners.clear();
-    for i in 0..olds.len() {
-        if let Some(kept) = again(space, table, group, candidates, olds[i], a, b) {
-            partners.push_reserved(kept);
-        }
-    }
-    if let Some(found) = first_of(space, table, group, candidates, new) {
-        partners.push_reserved(found);
     }
 }

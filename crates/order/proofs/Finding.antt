@@ -1,8 +1,12 @@
 -- Lemmas on the first of a list: it is unique, how it is found in one pass, and how it is found in stages.
-use Rattle.std.proofs.Common.{◌≡◌, ℕ, zero, suc, ◌+◌, ◌-◌, ◌<◌, Bool, true, false, ◌⊎◌, List, [], ◌∷◌, ◌++◌, length, get_or, take, drop, Some, None, Option, sym, refl, ap, ◌∙◌, subst, inl, inr, ⊎_elim, arith}
+use Rattle.std.proofs.Common.{◌≡◌, ℕ, zero, suc, ◌<◌, ◌≤◌, Bool, true, false, ◌⊎◌, List, [], ◌∷◌, ◌++◌, length, get_or, take, Some, None, Option, sym, refl, add-one, ap, ◌∙◌, inl, inr, ⊎_elim, arith}
 use Rattle.std.proofs.lemmas.Bool.{both_ways, cases_Bool}
-use Rattle.std.proofs.lemmas.List.{take_more, take_rest}
+use Rattle.std.proofs.lemmas.List.{take_all, take_more}
+use Rattle.std.proofs.lemmas.Option.{get_or_from_slice_get, none-some, slice_get_cases}
+use Rattle.std.specs.List.{slice_get}
 use Rattle.order.specs.Orders.{Order}
+use Rattle.order.specs.Bests.{Found}
+use Rattle.order.specs.Bests.Found.{start, skips, finds}
 use Rattle.order.specs.Firsts.{Among, First, FirstOf, Covers, Winners, together}
 use Rattle.order.specs.Firsts.Among.{here, there}
 use Rattle.order.specs.Firsts.Winners.{none, skip, won}
@@ -140,41 +144,42 @@ module _ {X : Type 0} {lt : X → X → Bool} (o : Order lt) where
   pub first_of_two : {xs : List X} {x y z : X} → First lt xs x → First lt (x ∷ y ∷ []) z → First lt (xs ++ y ∷ []) z
   first_of_two {xs} {x} {y} f g = first_covered (covers_two y f) g
 
-  -- ---- the pass over a slice that starts from its head
+-- ---- one more candidate
 
-  -- a candidate that stands in the list need not stand in front of it too
-  pub first_again : {xs : List X} {h x : X} → Among h xs → First lt (h ∷ xs) x → First lt xs x
-  first_again {xs} {h} {x} m f = record { stands = back f.stands; least = λ y a. f.least y (there a) }
-    where
-      back : {x : X} → Among x (h ∷ xs) → Among x xs
-      back here = m
-      back (there a) = a
+-- r says whether x comes before the first so far, where there is one
+abbrev pub Leads : {X : Type 0} → (X → X → Bool) → Option X → X → Bool → Type 0
+Leads lt None x r = r ≡ true
+Leads lt (Some best) x r = r ≡ lt x best
+
+module _ {X : Type 0} {lt : X → X → Bool} (o : Order lt) (xs : List X) where
+  pub leads_takes : (first : Option X) (x : X) → FirstOf lt xs first → Leads lt first x true → First lt (xs ++ x ∷ []) x
+  leads_takes None x e l = rw e (first_one o x)
+  leads_takes (Some best) x f l = first_takes o f (sym l)
+
+  pub leads_keeps : (first : Option X) (x : X) → FirstOf lt xs first → Leads lt first x false → FirstOf lt (xs ++ x ∷ []) first
+  leads_keeps None x e l = cc
+  leads_keeps (Some best) x f l = first_keeps o f (sym l)
 
 -- what is read at a place stands in the list
 pub among_at : {X : Type 0} (xs : List X) (i : ℕ) (x : X) → i < length xs → x ≡ get_or xs i x → Among x xs
-among_at [] i x h e = absurd (no_room i h)
-  where
-    no_room : (i : ℕ) → i < 0 → ⊥
-    no_room i h = omega arith
+among_at [] i x h e = absurd (omega arith)
 among_at (y ∷ xs) zero x h e = rw e here
 among_at (y ∷ xs) (suc i) x h e = there (among_at xs i x (omega arith) e)
 
--- ---- a loop over the candidates after the first one
+-- a search that is given the elements of a list finds the list
+module _ {X : Type 0} {Gives : ℕ → Option X → Type 0} (xs : List X) (same : (i : ℕ) (r : Option X) → Gives i r → r ≡ slice_get xs i) where
+  none_within : (i : ℕ) → slice_get xs i ≡ None → i < length xs → ⊥
+  none_within i e h =
+      ⊎_elim (λ q. none-some q.0 (sym e ∙ q.2)) (λ q. omega (arith, q.0)) (slice_get_cases xs i).1
 
-module _ {X : Type 0} {lt : X → X → Bool} (o : Order lt) (ys : List X) (i : ℕ) (h x best : X) (within : i < length ys) (read : x ≡ get_or ys i x) (f : First lt (h ∷ take i ys) best) where
-  pushed : take (i + 1) ys ≡ take i ys ++ x ∷ []
-  pushed = take_more ys i x within ∙ ap (λ z. take i ys ++ z ∷ []) (sym read)
+  found_take : {n : ℕ} {ys : List X} → Found Gives n ys → n ≤ length xs → ys ≡ take n xs
+  found_take start h = refl
+  found_take (skips {n} f g) h = absurd (none_within n (sym (same n None g)) (omega arith))
+  found_take (finds {n} {x = x} f g) h =
+      let e = take_more xs n x (omega arith) in
+      let k = get_or_from_slice_get xs n x x (sym (same n (Some x) g)) in
+      let t = found_take f (omega arith) in
+      rw add-one at (ap (λ zs. zs ++ x ∷ []) t ∙ ap (λ z. take n xs ++ z ∷ []) (sym k) ∙ sym e)
 
-  pub passed_takes : lt x best ≡ true → First lt (h ∷ take (i + 1) ys) x
-  passed_takes t = let P : List X → Type 0 = λ zs. First lt (h ∷ zs) x in subst P (sym pushed) (first_takes o f t)
-
-  pub passed_keeps : lt x best ≡ false → First lt (h ∷ take (i + 1) ys) best
-  passed_keeps t = let P : List X → Type 0 = λ zs. First lt (h ∷ zs) best in subst P (sym pushed) (first_keeps o f t)
-
--- the head of a slice and the rest of it, as the checker reads them
-pub head_and_rest : {X : Type 0} (xs : List X) (x : X) → 0 < length xs → x ≡ get_or xs 0 x → x ∷ take (length xs - 1) (drop 1 xs) ≡ xs
-head_and_rest [] x h e = absurd (none h)
-  where
-    none : 0 < 0 → ⊥
-    none h = omega arith
-head_and_rest (y ∷ ys) x h e = ap (λ zs. x ∷ zs) (take_rest (y ∷ ys) 1) ∙ ap (λ z. z ∷ ys) e
+  pub found_all : {n : ℕ} {ys : List X} → Found Gives n ys → n ≡ length xs → ys ≡ xs
+  found_all {n} f e = found_take f (omega arith) ∙ take_all n xs (omega arith)

@@ -74,10 +74,48 @@ ltb_chain a b c h k = lt-ltb a c (omega (arith, ltb-true a b h, ltb-true b c k))
 pub ltb_apart : (a b : ℕ) → nat_lt a b ≡ false → nat_lt b a ≡ false → a ≡ b
 ltb_apart a b h k = omega (arith, ltb-false a b h, ltb-false b a k)
 
--- ---- links
+-- ---- several numbers, one after another
 
-abbrev by_ends : Link → Link → Bool
-by_ends a b = then_by a.u b.u (nat_lt a.v b.v)
+-- A comparison that is an order but for ties: where neither of two candidates comes before the other, they are tied.
+pub record OrderBut {X : Type 0} (Tied : X → X → Type 0) (lt : X → X → Bool) : Type 0 where
+  pub one_way : (x y : X) → lt x y ≡ true → lt y x ≡ false
+  pub chain : (x y z : X) → lt x y ≡ true → lt y z ≡ true → lt x z ≡ true
+  pub apart : (x y : X) → lt x y ≡ false → lt y x ≡ false → Tied x y
+
+module _ {X : Type 0} (f : X → ℕ) where
+  -- the lower f first
+  pub by_lower : OrderBut (λ x y. f x ≡ f y) (λ x y. nat_lt (f x) (f y))
+  by_lower =
+      record {
+        one_way = λ x y. ltb_one_way (f x) (f y);
+        chain = λ x y z. ltb_chain (f x) (f y) (f z);
+        apart = λ x y. ltb_apart (f x) (f y);
+      }
+
+  module _ {Tied : X → X → Type 0} {lt : X → X → Bool} (o : OrderBut Tied lt) where
+    -- the lower f first, then as lt says
+    pub lower_then : OrderBut (λ x y. (f x ≡ f y) × Tied x y) (λ x y. then_by (f x) (f y) (lt x y))
+    lower_then =
+        record {
+          one_way = λ x y. then_one_way (f x) (f y) (lt x y) (lt y x) (o.one_way x y);
+          chain = λ x y z. then_chain (f x) (f y) (f z) (lt x y) (lt y z) (lt x z) (o.chain x y z);
+          apart = λ x y h k. let p = then_apart (f x) (f y) (lt x y) (lt y x) h k in (p.0, o.apart x y p.1 p.2);
+        }
+
+    -- the greater f first, then as lt says
+    pub greater_then : OrderBut (λ x y. (f x ≡ f y) × Tied x y) (λ x y. then_by (f y) (f x) (lt x y))
+    greater_then =
+        record {
+          one_way = λ x y. then_one_way (f y) (f x) (lt x y) (lt y x) (o.one_way x y);
+          chain = λ x y z h k. then_chain (f z) (f y) (f x) (lt y z) (lt x y) (lt x z) (λ m n. o.chain x y z n m) k h;
+          apart = λ x y h k. let p = then_apart (f y) (f x) (lt x y) (lt y x) h k in (sym p.0, o.apart x y p.1 p.2);
+        }
+
+-- where only the same candidate is tied, it is an order
+pub no_ties : {X : Type 0} {Tied : X → X → Type 0} {lt : X → X → Bool} → OrderBut Tied lt → ((x y : X) → Tied x y → x ≡ y) → Order lt
+no_ties o same = record { one_way = o.one_way; chain = o.chain; apart = λ x y h k. same x y (o.apart x y h k) }
+
+-- ---- links
 
 abbrev linked : ℕ → ℕ → ℕ → Link
 linked l u v = record { length = l; u = u; v = v }
@@ -88,20 +126,5 @@ same_link a b p q r =
 
 pub link_order : Order link_before
 link_order =
-    record {
-      one_way = λ a b h.
-          then_one_way a.length b.length (by_ends a b) (by_ends b a)
-          (λ k. then_one_way a.u b.u (nat_lt a.v b.v) (nat_lt b.v a.v) (λ m. ltb_one_way a.v b.v m) k)
-          h;
-      chain = λ a b c h k.
-          then_chain a.length b.length c.length (by_ends a b) (by_ends b c) (by_ends a c)
-          (λ m n.
-          then_chain a.u b.u c.u (nat_lt a.v b.v) (nat_lt b.v c.v) (nat_lt a.v c.v)
-          (λ s t. ltb_chain a.v b.v c.v s t)
-          m n)
-          h k;
-      apart = λ a b h k.
-          let p = then_apart a.length b.length (by_ends a b) (by_ends b a) h k in
-          let q = then_apart a.u b.u (nat_lt a.v b.v) (nat_lt b.v a.v) p.1 p.2 in
-          same_link a b p.0 q.0 (ltb_apart a.v b.v q.1 q.2);
-    }
+    no_ties (lower_then (λ (l : Link). l.length) (lower_then (λ (l : Link). l.u) (by_lower (λ (l : Link). l.v))))
+    (λ a b t. same_link a b t.0 t.1.0 t.1.1)

@@ -1,4 +1,5 @@
 pub mod Orders
 pub mod Firsts
+pub mod Bests
 pub mod Links
 pub mod Lexical

@@ -1,4 +1,5 @@
-ghost use Rattle.std.specs.Prelude.{◌≡◌, Bool, List};
+ghost use Rattle.std.specs.Prelude.{◌≡◌, ℕ, ◌<◌, Bool, List, slice_get};
+ghost use Rattle.order.specs.Bests.{Found};
 ghost use Rattle.order.specs.Firsts.{Covers, FirstOf, Winners, together};
 ghost use Rattle.order.specs.Orders.{Order};
 
@@ -12,6 +13,22 @@ pub trait Rank: Sized {
     ghost order: { Order before };
 }
 
+/// The first of the candidates that `find` gives for the numbers below `n`; `None` exactly where it gives none.
+pub fn first_found<C: Rank + Copy, F: Fn(usize) -> Option<C>>(n: usize, find: F) -> Option<C>
+    requires { (i : ℕ) → i < n → F.pre find i }
+    ensures { (xs : List C) × Found (F.post find) n xs × FirstOf C.Rank.before xs result }
+{
+    let mut first: Option<C> = None;
+    for i in 0..n {
+        if let Some(candidate) = find(i) {
+            if first.map_or(true, |best| candidate.precedes(&best)) {
+                first = Some(candidate);
+            }
+        }
+    }
+    first
+}
+
 /// The candidate that no candidate comes before; `None` exactly where there is none.
 /// The search over candidates that decide the first of a longer list finds the first of that list, so the first of the firsts of
 /// several lists is the first of all of them.
@@ -20,14 +37,10 @@ pub fn first<C: Rank + Copy>(candidates: &[C]) -> Option<C>
     ensures staged { (xs : List C) → Covers C.Rank.before candidates.now xs → FirstOf C.Rank.before xs result }
     ensures gathered { (ls : List (List C)) → Winners C.Rank.before ls candidates.now → FirstOf C.Rank.before (together ls) result }
 {
-    let [head, rest @ ..] = candidates else {
-        return None;
-    };
-    let mut best = *head;
-    for candidate in rest {
-        if candidate.precedes(&best) {
-            best = *candidate;
-        }
-    }
-    Some(best)
+    first_found(
+        candidates.len(),
+        |i|
+            ensures { result ≡ slice_get candidates.entry.now i }
+        { candidates.get(i).copied() },
+    )
 }

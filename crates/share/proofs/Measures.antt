@@ -8,7 +8,7 @@ use Rattle.space.specs.declared.spot.Spot.{Spot}
 use Rattle.tree_laws.specs.declared.Row.{Row}
 use Rattle.tree_laws.specs.Trees.{Child, Tree, between, length_of, path_length, row_of, spot_of, up, wire_of}
 use Rattle.tree_laws.proofs.Sharing.{between_first, between_length, between_new, between_other, between_paths, between_second, between_wire}
-use Rattle.tree.specs.Bests.{BestOf}
+use Rattle.order.specs.Bests.{BestOf}
 use Rattle.tree.specs.Hooks.{Measured, reach_of}
 use Rattle.tree.proofs.Measured.{uncut}
 use Rattle.share.specs.declared.share.Share.{Share}

@@ -1,6 +1,6 @@
 -- The share move: what it is, what it saves, and which is the best. `d` is how far apart two spots are, and `j o a b` is where the ways from o
 -- to a and to b part. Assumes nothing.
-use Rattle.std.specs.Prelude.{◌≡◌, ℕ, ◌+◌, ◌<◌, Bool, true, false, ◌&&◌, List, length, Some, None, Option, nat_lt}
+use Rattle.std.specs.Prelude.{◌≡◌, ℕ, ◌+◌, ◌<◌, Bool, true, false, ◌&&◌, List, length, Some, None, Ok, Err, Option, Result, nat_lt}
 use Rattle.std.specs.Option.{unwrap_or}
 use Rattle.order.specs.Orders.{then_by}
 use Rattle.space.specs.Laws.{answered}
@@ -10,12 +10,12 @@ use Rattle.space.specs.declared.spot.Spot.{Spot}
 use Rattle.tree_laws.specs.declared.Row.{Row}
 use Rattle.tree_laws.specs.Trees.{Child, Hung, between, path_length, spot_of, wire_of}
 use Rattle.tree.specs.declared.table.Table.{Table}
-use Rattle.tree.specs.Bests.{BestOf}
+use Rattle.order.specs.Bests.{BestOf}
 use Rattle.tree.specs.Hooks.{Measured, reach_of}
 use Rattle.tree.specs.Tables.{rows_of}
 use Rattle.share.specs.declared.share.Share.{Share}
-use Rattle.share.specs.declared.sharing.Sharing.{Sharing}
-use Rattle.share.specs.declared.sharing.Sharing.TheVariants.{Nothing, Full, Saves}
+use Rattle.share.specs.declared.sharing.Unshared.{Unshared}
+use Rattle.share.specs.declared.sharing.Unshared.TheVariants.{Nothing, Full}
 
 -- The greater saving first, then the lower v, then the lower a, then the lower b.
 abbrev pub share_before : (x y : Share) → Bool
@@ -73,18 +73,13 @@ pub record NoRoom {X : Type 0} (G : Ghosts X) (J : JoinGhosts X) (s : X) (rows :
   pub full : length rows ≡ 768
 
 -- Asked to make the best share move on the table t₀, the answer is r, and the table is t then.
-abbrev pub Shared : {X : Type 0} → Ghosts X → JoinGhosts X → X → (t₀ : Table) → Sharing → (t : Table) → Type 0
-Shared G J s t₀ Nothing t =
+abbrev pub Shared : {X : Type 0} → Ghosts X → JoinGhosts X → X → (t₀ : Table) → Result ℕ Unshared → (t : Table) → Type 0
+Shared G J s t₀ (Err Nothing) t =
     BestOf share_before (ShareMove (rows_of t₀) (reach_of G s) (join_of G J s)) None
     × (Measured G s (rows_of t₀) → BestOf share_before (ShareMove (rows_of t₀) (G.between s) (J.meeting s)) None)
     × (t ≡ t₀)
-Shared G J s t₀ Full t = NoRoom G J s (rows_of t₀) × (t ≡ t₀)
-Shared G J s t₀ (Saves w) t = Saved G J s (rows_of t₀) w (rows_of t)
-
--- Asked to make the move m on the table t₀, the answer is r, and the table is t then.
-abbrev pub Placed : (Spot → Spot → ℕ) → (Spot → Spot → Spot → Spot) → (t₀ : Table) → Share → Bool → (t : Table) → Type 0
-Placed d j t₀ m false t = (length (rows_of t₀) ≡ 768) × (t ≡ t₀)
-Placed d j t₀ m true t = rows_of t ≡ shared_by (rows_of t₀) d j m
+Shared G J s t₀ (Err Full) t = NoRoom G J s (rows_of t₀) × (t ≡ t₀)
+Shared G J s t₀ (Ok w) t = Saved G J s (rows_of t₀) w (rows_of t)
 
 -- ---- parting
 

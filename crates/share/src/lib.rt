@@ -8,4 +8,4 @@ mod sharing;
 
 pub use parting::{hangs, join, part};
 pub use share::Share;
-pub use sharing::{Sharer, Sharing};
+pub use sharing::{Unshared, share_best};

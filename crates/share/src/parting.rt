@@ -10,20 +10,14 @@ use tree::{Table, reach};
 pub fn join<S: Joining>(space: &S, o: Spot, a: Spot, b: Spot) -> Spot
     ensures { result ≡ join_of S.Space S.Joining.own space.now o a b }
 {
-    match space.meet(o, a, b) {
-        Some(z) => z,
-        None => o,
-    }
+    space.meet(o, a, b).unwrap_or(o)
 }
 
 /// Whether the row `c` hangs on `v`.
 pub fn hangs(table: &Table, v: usize, c: usize) -> bool
     ensures { Hanging (rows_of table.now) v c result }
 {
-    if c == 0 || c >= table.len() {
-        return false;
-    }
-    table.at(c).parent == v
+    c != 0 && table.row(c).is_some_and(|row| row.parent == v)
 }
 
 /// Puts the meet of the rows `a` and `b`, seen from `v`, between `v` and both as a new row and answers its number. Refused, with the table
@@ -38,10 +32,8 @@ pub fn part<S: Joining>(space: &S, table: &mut Table, v: usize, a: usize, b: usi
     let one = table.at(a).spot;
     let two = table.at(b).spot;
     let z = join(space, from, one, two);
-    let Some(new) = table.add(v, z, reach(space, from, z)) else {
-        return None;
-    };
-    table.hang(a, new, reach(space, z, one));
-    table.hang(b, new, reach(space, z, two));
+    let new = table.add(v, z, reach(space, from, z))?;
+    table.hang(a, new, reach(space, z, one)).ok()?;
+    table.hang(b, new, reach(space, z, two)).ok()?;
     Some(new)
 }

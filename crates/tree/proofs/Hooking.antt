@@ -1,19 +1,20 @@
 -- What the best hook move does to the table. Assumes nothing.
-use Rattle.std.proofs.Common.{◌≡◌, ℕ, ◌<◌, ◌≤◌, Bool, true, false, List, length, Some, sym, refl, ap, subst, arith}
+use Rattle.std.proofs.Common.{◌≡◌, ℕ, ◌<◌, ◌≤◌, List, length, Some, Ok, Err, Result, sym, refl, ap, subst, arith}
 use Rattle.tree_laws.specs.declared.Row.{Row}
 use Rattle.tree_laws.specs.Trees.{Tree, Hangs, hang, path_length, wire_of}
 use Rattle.tree_laws.proofs.Ways.{hung}
 use Rattle.tree_laws.proofs.Hanging.{hang_never_grows, hang_tree, hang_wire}
 use Rattle.tree.specs.declared.hook.Hook.{Hook}
+use Rattle.tree.specs.declared.table.Refusal.{Refusal}
 use Rattle.tree.specs.declared.table.Table.{Table}
-use Rattle.tree.specs.Bests.{BestOf}
+use Rattle.order.specs.Bests.{BestOf}
 use Rattle.tree.specs.Hooks.{hook_before, HookMove, Saved}
 use Rattle.tree.specs.Tables.{Changed, rows_of}
 
 -- what can be hung is hung
-pub changed_hangs : (s : Table) (v u l : ℕ) (r : Bool) (t : Table) → Changed s v u l r t → Hangs (rows_of s) v u → l ≤ 100000000 → rows_of t ≡ hang (rows_of s) v u l
-changed_hangs s v u l false t c g h = absurd (c.0 g h)
-changed_hangs s v u l true t c g h = c.2
+pub changed_hangs : (s : Table) (v u l : ℕ) (r : Result (Unit {0}) Refusal) (t : Table) → Changed s v u l r t → Hangs (rows_of s) v u → l ≤ 100000000 → rows_of t ≡ hang (rows_of s) v u l
+changed_hangs s v u l (Ok x) t c g h = c.2
+changed_hangs s v u l (Err e) t c g h = absurd (c.0 g h)
 
 pub saved : (rows : List Row) (d : ℕ → ℕ → ℕ) (m : Hook) (l : ℕ) (after : List Row) → Tree rows → BestOf hook_before (HookMove rows d) (Some m) → l ≡ d m.u m.v → after ≡ hang rows m.v m.u l → Saved rows d m.saving after
 saved rows d m l after t b e a =

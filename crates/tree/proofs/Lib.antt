@@ -1,5 +1,3 @@
-pub mod Deciding
 pub mod Hooking
 pub mod Measured
 pub mod Tabled
-pub mod Weighing

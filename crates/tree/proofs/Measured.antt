@@ -8,7 +8,7 @@ use Rattle.tree_laws.specs.declared.Row.{Row}
 use Rattle.tree_laws.specs.Trees.{Tree, hang, length_of, spot_of, up}
 use Rattle.tree_laws.proofs.Hanging.{hang_length, hang_spot, long_other, long_same, up_other, up_same}
 use Rattle.tree.specs.declared.hook.Hook.{Hook}
-use Rattle.tree.specs.Bests.{BestOf}
+use Rattle.order.specs.Bests.{BestOf}
 use Rattle.tree.specs.Hooks.{hook_before, HookMove, Measured, Saved, Settled, apart, distance_of}
 
 -- ---- two ways to measure that agree on the rows

@@ -9,7 +9,7 @@ use Rattle.tree_laws.specs.declared.Row.{Row}
 use Rattle.tree_laws.specs.Trees.{Hangs, Hung, hang, length_of, path_length, spot_of, up, wire_of}
 use Rattle.tree.specs.declared.hook.Hook.{Hook}
 use Rattle.tree.specs.declared.table.Table.{Table}
-use Rattle.tree.specs.Bests.{BestOf}
+use Rattle.order.specs.Bests.{BestOf}
 use Rattle.tree.specs.Tables.{rows_of}
 
 -- The greater saving first, then the lower v, then the lower u.

@@ -1,11 +1,11 @@
-ghost use Rattle.std.specs.Prelude.{◌≡◌};
 ghost use Rattle.tree.specs.Hooks.{hook_before};
 ghost use Rattle.tree.specs.Moves.{hook_order};
 
 use order::Rank;
+use std::cmp::Reverse;
 
 /// A move that hangs `v` on `u`: the greater saving first, then the lower v, then the lower u.
-#[derive(Clone, Copy)]
+#[derive(Clone, Copy, Debug, PartialEq, Eq)]
 pub struct Hook {
     pub saving: u64,
     pub v: usize,
@@ -18,12 +18,6 @@ impl Rank for Hook {
     ghost order = { hook_order };
 
     fn precedes(&self, other: &Hook) -> bool {
-        if self.saving != other.saving {
-            self.saving > other.saving
-        } else if self.v != other.v {
-            self.v < other.v
-        } else {
-            self.u < other.u
-        }
+        (Reverse(self.saving), self.v, self.u) < (Reverse(other.saving), other.v, other.u)
     }
 }

@@ -8,4 +8,5 @@ mod table;
 
 pub use hook::Hook;
 pub use refining::{Refiner, reach};
-pub use table::{LONGEST, ROWS, Table};
+pub use space::LONGEST;
+pub use table::{ROWS, Refusal, Table};

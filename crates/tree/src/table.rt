@@ -1,5 +1,5 @@
-ghost use Rattle.std.specs.Prelude.{◌≡◌, ℕ, ◌<◌, ◌≤◌, length, vec_capacity};
-ghost use Rattle.tree_laws.specs.Trees.{climb, length_of, up};
+ghost use Rattle.std.specs.Prelude.{ℕ, ◌≤◌, length, vec_capacity};
+ghost use Rattle.tree_laws.specs.Trees.{Tree, length_of};
 
 use tree_laws::Row;
 
@@ -9,8 +9,20 @@ mod changing;
 /// The most rows that a table can have.
 pub const ROWS: usize = 768;
 
-/// The greatest length of a row.
-pub const LONGEST: u64 = 100_000_000;
+/// Why a row can't hang on another.
+#[derive(Clone, Copy, Debug, PartialEq, Eq)]
+pub enum Refusal {
+    /// The row is the driver, which hangs on nothing.
+    Driver,
+    /// There is no such row.
+    NoRow,
+    /// The row to hang it on is none.
+    NoParent,
+    /// The length is above `LONGEST`.
+    TooLong,
+    /// The row to hang it on is the row itself or hangs below it.
+    Below,
+}
 
 /// Rows that all hang, one on another, on row 0, the driver.
 #[derive(Drop)]
@@ -19,9 +31,5 @@ pub struct Table {
     ghost room: { 768 ≤ vec_capacity rows },
     ghost few: { length rows.items ≤ 768 },
     ghost lengths: { (k : ℕ) → length_of rows.items k ≤ 100000000 },
-    ghost some: { 0 < length rows.items },
-    ghost driver: { up rows.items 0 ≡ 0 },
-    ghost still: { length_of rows.items 0 ≡ 0 },
-    ghost parents: { (k : ℕ) → k < length rows.items → up rows.items k < length rows.items },
-    ghost reaches: { (k : ℕ) → k < length rows.items → climb rows.items (length rows.items) k ≡ 0 },
+    ghost tree: { Tree rows.items },
 }

@@ -4,7 +4,6 @@ ghost use Rattle.tree_laws.specs.Trees.{Hung, path_length, row_of, under, up, wi
 ghost use Rattle.tree.specs.Tables.{Paths, rows_of};
 
 use super::Table;
-use space::Spot;
 use tree_laws::Row;
 
 impl Table {
@@ -19,11 +18,7 @@ impl Table {
     pub fn row(&self, k: usize) -> Option<Row>
         ensures { result ≡ answered (nat_lt k (length (rows_of self.now))) (row_of (rows_of self.now) k) }
     {
-        if k < self.len() {
-            Some(self.at(k))
-        } else {
-            None
-        }
+        self.rows.get(k).copied()
     }
 
     /// The row `k`; a row of no length on the driver where there is none.
@@ -31,31 +26,14 @@ impl Table {
         ensures row { result ≡ row_of (rows_of self.now) k }
         ensures short { result.length ≤ 100000000 }
     {
-        if k < self.len() {
-            self.rows[k]
-        } else {
-            let spot = Spot {
-                x: 0,
-                y: 0,
-                level: 0,
-            };
-            Row {
-                parent: 0,
-                spot,
-                length: 0,
-            }
-        }
+        self.row(k).unwrap_or_default()
     }
 
     /// The sum of all lengths.
     pub fn wire(&self) -> u64
         ensures { result ≡ wire_of (rows_of self.now) }
     {
-        let mut wire = 0;
-        for k in 0..self.len() {
-            wire += self.at(k).length;
-        }
-        wire
+        self.rows.iter().map(|row| row.length).sum()
     }
 
     /// The sum of the lengths from the driver down to `k`.
@@ -64,7 +42,7 @@ impl Table {
     {
         let mut path = 0;
         let mut at = k;
-        for step in 0..self.len() {
+        for _ in 0..self.len() {
             let row = self.at(at);
             path += row.length;
             at = row.parent;
@@ -77,11 +55,7 @@ impl Table {
         ensures path { result ≡ answered (nat_lt k (length (rows_of self.now))) (path_length (rows_of self.now) k) }
         ensures way { k < length (rows_of self.now) → Hung (rows_of self.now) k }
     {
-        if k < self.len() {
-            Some(self.path_of(k))
-        } else {
-            None
-        }
+        (k < self.len()).then(|| self.path_of(k))
     }
 
     /// The paths of all rows.
@@ -91,6 +65,7 @@ impl Table {
         ensures room { vec_capacity out.new ≡ vec_capacity out.old }
     {
         out.clear();
+        // Kept: `k` is the number of a row, which `path_of` takes, and `extend` may allocate (fixed memory is a rule of this engine).
         for k in 0..self.len() {
             out.push_reserved(self.path_of(k));
         }
@@ -101,7 +76,7 @@ impl Table {
         ensures { result ≡ under (rows_of self.now) u v }
     {
         let mut at = u;
-        for step in 0..self.len() {
+        for _ in 0..self.len() {
             if at == v {
                 return true;
             }

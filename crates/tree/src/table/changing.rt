@@ -1,10 +1,21 @@
-ghost use Rattle.std.specs.Prelude.{◌≡◌, ℕ, ◌<◌, ◌≤◌, true, false, [], ◌∷◌, length, IfOk};
-ghost use Rattle.tree.specs.Tables.{Added, Changed, alone, rows_of};
+ghost use Rattle.std.specs.Prelude.{◌≡◌, [], ◌∷◌, IfOk};
+ghost use Rattle.tree.specs.Tables.{Added, Changed, Hanging, alone, rows_of};
 
-use super::{LONGEST, ROWS, Table};
-use space::Spot;
+use super::{ROWS, Refusal, Table};
+use space::{LONGEST, Spot};
 use std::alloc::{AllocError, Global};
 use tree_laws::Row;
+
+/// The row of the driver.
+fn root(spot: Spot) -> Row
+    ensures { result ∷ [] ≡ alone spot }
+{
+    Row {
+        parent: 0,
+        spot,
+        length: 0,
+    }
+}
 
 impl Table {
     /// The driver alone.
@@ -12,11 +23,7 @@ impl Table {
         ensures { IfOk result (λ t. rows_of t ≡ alone driver) }
     {
         let mut rows = Vec::with_capacity(heap, ROWS)?;
-        rows.push_reserved(Row {
-            parent: 0,
-            spot: driver,
-            length: 0,
-        });
+        rows.push_reserved(root(driver));
         Ok(Table { rows })
     }
 
@@ -25,12 +32,7 @@ impl Table {
         ensures { rows_of self.new ≡ alone driver }
     {
         self.rows.clear();
-        let length = 0;
-        self.rows.push_reserved(Row {
-            parent: 0,
-            spot: driver,
-            length,
-        });
+        self.rows.push_reserved(root(driver));
     }
 
     /// Adds a row on `u` and answers its number; nothing, with the table as it was, where `u` is no row, the length is above `LONGEST`, or
@@ -50,21 +52,37 @@ impl Table {
         Some(k)
     }
 
-    /// Hangs `v` on `u` at another length; refused, with the table as it was, where `v` is the driver, `u` is `v` or under it, one of them is
-    /// no row, or the length is above `LONGEST`.
-    pub fn hang(&mut self, v: usize, u: usize, length: u64) -> bool
-        ensures { Changed self.old v u length result self.new }
+    /// Whether `v` can hang on `u` at a length, or the first reason why it can't.
+    fn can_hang(&self, v: usize, u: usize, length: u64) -> Result<(), Refusal>
+        ensures { Hanging (rows_of self.now) v u length result }
     {
-        let rows = self.rows.len();
-        if v == 0 || v >= rows || u >= rows || length > LONGEST {
-            return false;
+        if v == 0 {
+            return Err(Refusal::Driver);
+        }
+        if v >= self.len() {
+            return Err(Refusal::NoRow);
+        }
+        if u >= self.len() {
+            return Err(Refusal::NoParent);
+        }
+        if length > LONGEST {
+            return Err(Refusal::TooLong);
         }
         if self.under(u, v) {
-            return false;
+            return Err(Refusal::Below);
         }
+        Ok(())
+    }
+
+    /// Hangs `v` on `u` at another length; refused, with the table as it was, where `v` is the driver, `v` is no row, `u` is no row, the
+    /// length is above `LONGEST`, or `u` is `v` or under it: the first of these reasons is the error.
+    pub fn hang(&mut self, v: usize, u: usize, length: u64) -> Result<(), Refusal>
+        ensures { Changed self.old v u length result self.new }
+    {
+        self.can_hang(v, u, length)?;
         let row = &mut self.rows[v];
         row.parent = u;
         row.length = length;
-        true
+        Ok(())
     }
 }

@@ -2,14 +2,13 @@ use Rattle.std.proofs.Common.{ℕ, List, length, vec_items, sym, ap, subst, arit
 use Rattle.share.specs.Shares.{join_of}
 use Rattle.tree.specs.Hooks.{reach_of}
 use Rattle.tree.specs.Tables.{rows_of}
-use Rattle.tree.proofs.Tabled.{tree_of}
 use Rattle.joined.specs.Joinings.{Joinable}
 use Rattle.joined.specs.Pairs.{Firsts}
 use Rattle.joined.proofs.Stepping.{standing_start}
 use Rattle.joined.proofs.joining.Joiner.begin.Goals as goal
 
-pub returns : goal.returns
-returns g c =
+pub returns-clause-standing : goal.returns-clause-standing
+returns-clause-standing g c =
     let t = c.args.table.now in
     let rows = rows_of t in
     let d = reach_of g.S.Space c.args.space.now in
@@ -20,7 +19,4 @@ returns g c =
     let v = c.as_slice.ensures.value in
     let P : List ℕ → Type 0 = λ xs. Joinable rows xs in
     let Q : List ℕ → Type 0 = λ xs. Firsts d j rows xs F in
-    record {
-      standing = standing_start d j rows group F (tree_of t) (subst P (sym e) c.requires) (subst Q v c.start.ensures.firsts) (omega (arith, c.start.ensures.few, ap length v));
-      members = e;
-    }
+    standing_start d j rows group F t.tree (subst P (sym e) c.requires) (subst Q v c.start.ensures.firsts) (omega (arith, c.start.ensures.few, ap length v))

@@ -4,7 +4,6 @@ use Rattle.share.specs.Shares.{join_of}
 use Rattle.tree_laws.proofs.Ways.{hung}
 use Rattle.tree.specs.Hooks.{reach_of}
 use Rattle.tree.specs.Tables.{rows_of}
-use Rattle.tree.proofs.Tabled.{tree_of}
 use Rattle.joined.proofs.Owning.{owned}
 use Rattle.joined.proofs.joining.Joiner.join.Goals as goal
 
@@ -22,6 +21,6 @@ returns g c =
       joinable = fits;
       joins = joins;
       wire = c.wire.ensures;
-      tree = hung (tree_of c.run.new.table);
-      own = owned g.S.Space g.S.Joining s (g.met.S.Space.metric s) (g.met.S.Joining.meets s) rows after group (tree_of t) fits joins;
+      tree = hung (c.run.new.table.tree);
+      own = owned g.S.Space g.S.Joining s (g.met.S.Space.metric s) (g.met.S.Joining.meets s) rows after group t.tree fits joins;
     }

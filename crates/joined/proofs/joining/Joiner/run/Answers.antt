@@ -14,8 +14,8 @@ returns-then-not-step g c =
     let j = join_of g.S.Space g.S.Joining c.args.space.now in
     let e = c.if-not-step.ensures in
     let P : List Row → Type 0 = λ xs. Joins d j (rows_of c.args.table.now) (vec_items c.args.self.now.group) xs in
-    subst P (sym e.0) (c.loop-turn.invariant.2 (rows_of c.loop-turn.table) (done e.1))
+    subst P (sym e.0) (c.loop.invariant.2 (rows_of c.loop.table) (done e.1))
 
 pub returns : goal.returns
 returns g c =
-    c.loop-turn.invariant.2 (rows_of c.loop-turn.table) (done (λ a b p. absurd (among_empty (vec_items c.loop-turn.self.group) a p.first (omega (arith, c.loop-turn.invariant.1)))))
+    c.loop.invariant.2 (rows_of c.loop.table) (done (λ a b p. absurd (among_empty (vec_items c.loop.self.group) a p.first (omega (arith, c.loop.invariant.1)))))

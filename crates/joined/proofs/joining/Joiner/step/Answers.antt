@@ -1,10 +1,9 @@
-use Rattle.std.proofs.Common.{◌≡◌, ℕ, ◌<◌, List, [], ◌∷◌, ◌++◌, length, Some, None, vec_items, vec_capacity, filter, refl, ap, ◌∙◌, subst, arith}
+use Rattle.std.proofs.Common.{◌≡◌, ℕ, ◌<◌, List, [], ◌∷◌, ◌++◌, length, Some, None, vec_items, filter, refl, ap, ◌∙◌, subst, arith}
 use Rattle.order.specs.Firsts.{FirstOf}
 use Rattle.build_laws.specs.Joining.{far_of}
 use Rattle.share.specs.Shares.{join_of}
 use Rattle.tree.specs.Hooks.{reach_of}
 use Rattle.tree.specs.Tables.{rows_of}
-use Rattle.tree.proofs.Tabled.{tree_of}
 use Rattle.joined.specs.declared.pair.Pair.{Pair}
 use Rattle.joined.specs.Joinings.{others}
 use Rattle.joined.specs.Pairs.{Firsts, pair_before}
@@ -45,7 +44,7 @@ returns-in_default-part g c =
     let p = c.in-Some.pair in
     let P : List Pair → Type 0 = λ xs. FirstOf pair_before xs (Some p) in
     let best = firsts_best d j rows group F (Some p) c.requires.firsts (subst P c.as_slice.ensures.value c.in-Some.ensures.first) in
-    absurd (c.in_default-part.ensures.0 (step_parts d j rows (tree_of t) group F c.requires p.a p.b best.0.pair))
+    absurd (c.in_default-part.ensures.0 (step_parts d j rows t.tree group F c.requires p.a p.b best.0.pair))
 
 pub push_reserved-requires : goal.push_reserved-requires
 push_reserved-requires g c =
@@ -58,11 +57,11 @@ push_reserved-requires g c =
       c.leave.ensures.room,
       c.args.self.now.members,
       c.requires.room,
-      c.args.table.now.some,
+      c.args.table.now.tree.some,
     )
 
-pub renew-requires : goal.renew-requires
-renew-requires g c =
+pub invariant_of-group : goal.invariant_of-group
+invariant_of-group g c =
     let t = c.args.table.now in
     let rows = rows_of t in
     let d = reach_of g.S.Space c.args.space.now in
@@ -76,12 +75,24 @@ renew-requires g c =
     let left = c.as_slice-2.result.now in
     let e : left ≡ filter (others p.a p.b) group ++ c.in-Some-part.new ∷ [] =
     c.as_slice-2.ensures.value ∙ c.push_reserved.ensures.items ∙ ap (λ xs. xs ++ c.in-Some-part.new ∷ []) c.leave.ensures.items in
-    record {
-      few = omega (arith, shorter_at d j rows (tree_of t) group F c.requires p.a p.b best.0.pair (rows_of c.part.new.table) left c.in-Some-part.new parted.2 parted.1 e, c.requires.room);
-      partners = omega (arith, ap vec_capacity c.swap.ensures.x_after, c.args.self.now.other);
-      candidates = c.args.self.now.wide;
-      ready = ready_at d j rows (tree_of t) group F c.requires p.a p.b best.0.pair (rows_of c.part.new.table) left c.in-Some-part.new parted.2 parted.1 e c.as_slice-3.result.now (c.as_slice-3.ensures.value ∙ ap vec_items c.swap.ensures.y_after);
-    }
+    omega (arith, shorter_at d j rows t.tree group F c.requires p.a p.b best.0.pair (rows_of c.part.new.table) left c.in-Some-part.new parted.2 parted.1 e, c.requires.room)
+
+pub renew-requires-clause-ready : goal.renew-requires-clause-ready
+renew-requires-clause-ready g c =
+    let t = c.args.table.now in
+    let rows = rows_of t in
+    let d = reach_of g.S.Space c.args.space.now in
+    let j = join_of g.S.Space g.S.Joining c.args.space.now in
+    let group = vec_items c.args.self.now.group in
+    let F = vec_items c.args.self.now.partners in
+    let p = c.in-Some.pair in
+    let P : List Pair → Type 0 = λ xs. FirstOf pair_before xs (Some p) in
+    let best = firsts_best d j rows group F (Some p) c.requires.firsts (subst P c.as_slice.ensures.value c.in-Some.ensures.first) in
+    let parted = c.in-Some-part.ensures in
+    let left = c.as_slice-2.result.now in
+    let e : left ≡ filter (others p.a p.b) group ++ c.in-Some-part.new ∷ [] =
+    c.as_slice-2.ensures.value ∙ c.push_reserved.ensures.items ∙ ap (λ xs. xs ++ c.in-Some-part.new ∷ []) c.leave.ensures.items in
+    ready_at d j rows t.tree group F c.requires p.a p.b best.0.pair (rows_of c.part.new.table) left c.in-Some-part.new parted.2 parted.1 e F refl
 
 pub returns : goal.returns
 returns g c =
@@ -101,8 +112,8 @@ returns g c =
     c.push_reserved.ensures.items ∙ ap (λ xs. xs ++ c.in-Some-part.new ∷ []) c.leave.ensures.items in
     let Q : List ℕ → Type 0 = λ xs. Firsts d j (rows_of c.part.new.table) xs G in
     let far : 0 < far_of d j rows p.a p.b = omega (arith, best.0.long, c.if-pair-eq0.false) in
-    stepped_at d j rows (tree_of t) group F c.requires p.a p.b best.0.pair (rows_of c.part.new.table) left c.in-Some-part.new parted.2 parted.1 e G
+    stepped_at d j rows t.tree group F c.requires p.a p.b best.0.pair (rows_of c.part.new.table) left c.in-Some-part.new parted.2 parted.1 e G
     (subst Q c.as_slice-2.ensures.value c.renew.ensures.firsts)
-    (omega (arith, c.renew.ensures.few, ap length (c.as_slice-3.ensures.value ∙ ap vec_items c.swap.ensures.y_after)))
+    c.renew.ensures.few
     (best_farthest d j rows group p best)
     far

@@ -3,7 +3,6 @@ use Rattle.tree_laws.specs.declared.Row.{Row}
 use Rattle.tree_laws.specs.Trees.{Tree, add, length_of}
 use Rattle.tree_laws.proofs.Adding.{add_length, add_lengths, add_tree}
 use Rattle.tree.specs.Tables.{rows_of}
-use Rattle.tree.proofs.Tabled.{tree_of}
 use Rattle.tree.proofs.table.Table.add.Goals as goal
 
 pub invariant_of-self : goal.invariant_of-self
@@ -18,14 +17,9 @@ invariant_of-self c =
     let P : List Row → Type 0 = λ xs. (k : ℕ) → length_of xs k ≤ 100000000 in
     let n : length after ≤ 768 = omega (arith, ap length e, add_length (rows_of t) u z l, t.rows.ok.0) in
     let short = subst P (sym e) (add_lengths (rows_of t) u z l 100000000 (omega arith) t.lengths) in
-    let whole = subst Tree (sym e) (add_tree (rows_of t) u z l (tree_of t) h) in
     record {
       room = omega (arith, c.push_reserved.ensures.capacity, t.room);
       few = n;
       lengths = short;
-      some = whole.some;
-      driver = whole.driver;
-      still = whole.still;
-      parents = whole.parents;
-      reaches = whole.reaches;
+      tree = subst Tree (sym e) (add_tree (rows_of t) u z l t.tree h);
     }

@@ -1,7 +1,7 @@
-use Rattle.std.proofs.Common.{◌+◌, ◌-◌, ◌<◌, ◌≤◌, length, ap, arith}
+use Rattle.std.proofs.Common.{◌+◌, ◌-◌, ◌<◌, length, ap, arith}
 use Rattle.tree_laws.specs.declared.Row.{Row}
 use Rattle.tree_laws.specs.Trees.{path_in, path_length}
-use Rattle.tree_laws.proofs.Steps.{path_bound, path_last, path_turn}
+use Rattle.tree_laws.proofs.Steps.{path_bound, path_turn}
 use Rattle.tree.specs.Tables.{rows_of}
 use Rattle.tree.proofs.Tabled.{tree_of}
 use Rattle.tree.proofs.table.Table.path_of.Goals as goal
@@ -10,23 +10,16 @@ pub overflow_add-path : goal.overflow_add-path
 overflow_add-path c =
     let t = c.args.self.now in
     let n = length (rows_of t) in
-    let h : c.loop-step.step < n = omega (arith, t.rows.ok.0) in
-    let turn = path_turn (tree_of t) n c.loop-step.step c.loop-step.at c.loop-step.path (path_length (rows_of t) c.args.k) h c.loop-step.invariant in
+    let h : c.loop.counter < n = omega (arith, t.rows.ok.0) in
+    let turn = path_turn (tree_of t) n c.loop.counter c.loop.at c.loop.path (path_length (rows_of t) c.args.k) h c.loop.invariant in
     omega (arith, turn, t.few, path_bound (rows_of t) 100000000 t.lengths n c.args.k, ap (λ (r : Row). r.length) c.at-row.ensures.row)
 
-pub loop-step-preserved : goal.loop-step-preserved
-loop-step-preserved c =
+pub loop-preserved : goal.loop-preserved
+loop-preserved c =
     let t = c.args.self.now in
     let n = length (rows_of t) in
-    let i = c.loop-step.step in
-    let at = c.loop-step.at in
+    let i = c.loop.counter in
+    let at = c.loop.at in
     let h : i < n = omega (arith, t.rows.ok.0) in
-    let turn = path_turn (tree_of t) n i at c.loop-step.path (path_length (rows_of t) c.args.k) h c.loop-step.invariant in
+    let turn = path_turn (tree_of t) n i at c.loop.path (path_length (rows_of t) c.args.k) h c.loop.invariant in
     omega (arith, turn, ap (λ (r : Row). r.length) c.at-row.ensures.row, ap (λ (r : Row). path_in (rows_of t) (n - (i + 1)) r.parent) c.at-row.ensures.row)
-
-pub returns : goal.returns
-returns c =
-    let t = c.args.self.now in
-    let n = length (rows_of t) in
-    let h : n ≤ c.loop-step.step = omega (arith, t.rows.ok.0) in
-    omega (arith, c.loop-step.invariant, path_last (rows_of t) n c.loop-step.step c.loop-step.at h)

@@ -4,5 +4,5 @@ use Rattle.tree.specs.Tables.{rows_of}
 use Rattle.tree.proofs.table.Table.under.Given as goal
 
 -- whether v is met on the rest of the way says whether it is met at all
-abbrev pub invariant-loop-step : goal.invariant-loop-step
-invariant-loop-step l = under_in (rows_of l.self) (length (rows_of l.self) - l.step) l.at l.v ≡ under (rows_of l.self) l.u l.v
+abbrev pub invariant-loop : goal.invariant-loop
+invariant-loop l = under_in (rows_of l.self) (length (rows_of l.self) - l.counter) l.at l.v ≡ under (rows_of l.self) l.u l.v

@@ -1,0 +1,18 @@
+use Rattle.std.proofs.Common.{length, refl, arith, rules}
+use Rattle.order.proofs.Deciding.{found_best}
+use Rattle.tree.specs.Hooks.{reach_of}
+use Rattle.tree.specs.Tables.{rows_of}
+use Rattle.share.specs.Shares.{ShareMove, ShareOf, join_of}
+use Rattle.share.specs.Moves.{share_order}
+use Rattle.share.proofs.sharing.Search.best.Goals as goal
+
+pub returns : goal.returns
+returns g c =
+    let rows = rows_of c.args.self.now.table.now in
+    let d = reach_of g.S.Space c.args.self.now.space.now in
+    let j = join_of g.S.Space g.S.Joining c.args.self.now.space.now in
+    let (_, found, first) = c.first_found.ensures in
+    found_best (λ a. ShareOf rows d j a (length rows)) (ShareMove rows d j) share_order c.first_found.result found first
+    (λ a m h q. q.0)
+    (λ m q. (m.a, omega (arith, q.first.row), (q, refl, q.second.row)))
+    (λ i r h p. search rules)
