@@ -6,15 +6,11 @@ ghost use Rattle.build_laws.specs.Joining.{JoiningKeeps};
 ghost use Rattle.build_laws.specs.Straight.{StraightKeeps};
 
 /// The straight tree of every finished walk is a tree within the bounds on wire and paths.
-pub fn straight_keeps() -> u8
+pub fn straight_keeps()
     ensures keeps { StraightKeeps }
-{
-    0
-}
+{}
 
 /// Joining rows that hang on the driver keeps the tree, every path, and no more wire.
-pub fn joining_keeps() -> u8
+pub fn joining_keeps()
     ensures keeps { JoiningKeeps }
-{
-    0
-}
+{}

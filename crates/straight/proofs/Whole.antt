@@ -1,15 +1,17 @@
 -- What the measuring, the walk and the laying come to. `d` is the distance of two spots. Assumes nothing.
-use Rattle.std.proofs.Common.{◌≡◌, ℕ, ◌+◌, ◌<◌, Bool, true, ◌&&◌, eqb, List, map, length, get_or, sym, ap, ◌∙◌, subst}
+use Rattle.std.proofs.Common.{◌≡◌, ℕ, ◌+◌, ◌<◌, true, cond, eqb, List, Ok, Err, OnOk, Result, map, length, get_or, sym, ap, ◌∙◌, subst}
 use mathlib.Core.Path.{fun_ext}
 use Rattle.std.proofs.lemmas.List.{length-map}
-use Rattle.std.proofs.lemmas.Bool.{and_from, eq-eqb, eqb-true}
+use Rattle.std.proofs.lemmas.Bool.{cond-true, eq-eqb, eqb-true}
 use Rattle.space.specs.declared.spot.Spot.{Spot}
 use Rattle.forest.specs.declared.Edge.{Edge}
 use Rattle.forest.specs.Edges.{Sound}
 use Rattle.walk.specs.declared.row.Row.{Row as WalkRow}
 use Rattle.walk.specs.Marks.{directs, marks}
 use Rattle.walk.specs.Marks as walk
-use Rattle.walk.specs.Walked.{Kept, Walked}
+use Rattle.walk.specs.declared.table.Unfit.{Unfit}
+use Rattle.walk.specs.declared.table.Unfit.TheVariants as unfit
+use Rattle.walk.specs.Walked.{Kept, Walked, fitting}
 use Rattle.tree_laws.specs.declared.Row.{Row}
 use Rattle.tree_laws.specs.Trees.{wire_of}
 use Rattle.build_laws.specs.Straight.{Straight, straight}
@@ -22,13 +24,15 @@ use Rattle.straight.proofs.Mixed.{laid_straight}
 pub tree_from_test : (a b : ℕ) → true ≡ eqb a b → a ≡ b
 tree_from_test a b e = eqb-true a b (sym e)
 
-module _ (d : Spot → Spot → ℕ) (spots : List Spot) (p q pins n : ℕ) (E : List Edge) (old new : List WalkRow) (r : Bool) (pos : 0 < q) (sound : Sound n E) (tree : length E + 1 ≡ n) (size : n ≡ length spots)
-    (measured : directs_of old ≡ map (d (spot_at spots 0)) spots) (taken : r ≡ (eqb (length E + 1) n && eqb (length old) n)) (walks : r ≡ true → Walked (walk.rules_of p q pins old) n E (marks new)) (kept : Kept old new) where
+module _ (d : Spot → Spot → ℕ) (spots : List Spot) (p q pins n : ℕ) (E : List Edge) (old new : List WalkRow) (r : Result (Unit {0}) Unfit) (pos : 0 < q) (sound : Sound n E) (tree : length E + 1 ≡ n) (size : n ≡ length spots)
+    (measured : directs_of old ≡ map (d (spot_at spots 0)) spots) (taken : r ≡ fitting n E old) (walks : OnOk r (Walked (walk.rules_of p q pins old) n E (marks new))) (kept : Kept old new) where
   -- the walk is not refused
-  goes : r ≡ true
+  goes : r ≡ Ok tt
   goes =
       let count : length old ≡ n = sym (length-map old (λ (x : WalkRow). x.direct)) ∙ ap length measured ∙ length-map spots (d (spot_at spots 0)) ∙ sym size in
-      taken ∙ and_from (eqb (length E + 1) n) (eqb (length old) n) (eq-eqb (length E + 1) n tree) (eq-eqb (length old) n count)
+      taken
+      ∙ cond-true (eqb (length E + 1) n) (cond (eqb (length old) n) (Ok tt) (Err unfit.Rows)) (Err unfit.NoTree) (eq-eqb (length E + 1) n tree)
+      ∙ cond-true (eqb (length old) n) (Ok tt) (Err unfit.Rows) (eq-eqb (length old) n count)
 
   direct_old : (k : ℕ) → directs old k ≡ (rules_of d p q pins spots).direct k
   direct_old k = directs_at old k ∙ ap (λ (xs : List ℕ). get_or xs k 0) measured
@@ -36,7 +40,8 @@ module _ (d : Spot → Spot → ℕ) (spots : List Spot) (p q pins n : ℕ) (E :
   whole_walked : Walked (rules_of d p q pins spots) n E (marks new)
   whole_walked =
       let P : (ℕ → ℕ) → Type 0 = λ f. Walked (record { p = p; q = q; pins = pins; direct = f }) n E (marks new) in
-      subst P (fun_ext direct_old) (walks goes)
+      let Q : Result (Unit {0}) Unfit → Type 0 = λ x. OnOk x (Walked (walk.rules_of p q pins old) n E (marks new)) in
+      subst P (fun_ext direct_old) (subst Q goes walks)
 
   pub whole_falls : Falling (length spots) (marks new)
   whole_falls =

@@ -1,8 +1,10 @@
 -- What building a straight tree answers. `d` is the distance of two spots. Assumes nothing.
-use Rattle.std.specs.Prelude.{◌≡◌, ℕ, zero, suc, ◌+◌, ◌*◌, ◌<◌, ◌≤◌, true, cond, List, [], ◌∷◌, ◌++◌, map, length, pos, Some, None, Option, slice_index, slice_index_or}
+use Rattle.std.specs.Prelude.{◌≡◌, ℕ, zero, suc, ◌+◌, ◌*◌, ◌<◌, ◌≤◌, true, cond, List, [], ◌∷◌, ◌++◌, map, length, Some, None, Option, slice_index}
 use Rattle.order.specs.Firsts.{Among}
 use Rattle.space.specs.declared.Space.{Ghosts}
 use Rattle.space.specs.declared.spot.Spot.{Spot}
+pub use Rattle.space.specs.Spots.{origin}
+use Rattle.space.specs.Spots.{spot_of}
 use Rattle.forest.specs.declared.Edge.{Edge}
 use Rattle.seed.specs.declared.store.Seed.{Seed}
 use Rattle.seed.specs.Seeds.{edges_of, nodes_of}
@@ -16,13 +18,9 @@ use Rattle.tree.specs.Hooks.{Measured, reach_of}
 use Rattle.tree.specs.Tables.{rows_of}
 use Rattle.build_laws.specs.Straight.{Straight, straight}
 
--- What stands past the spots.
-abbrev pub origin : Spot
-origin = record { x = pos 0; y = pos 0; level = pos 0 }
-
--- The spot of a node.
+-- The spot of a node; past the spots, the origin.
 abbrev pub spot_at : List Spot → ℕ → Spot
-spot_at spots v = slice_index_or spots v origin
+spot_at spots v = spot_of spots v
 
 -- The rules of the walk: the direct distance of a node is that of its spot from the driver's.
 abbrev pub rules_of : (Spot → Spot → ℕ) → (p q pins : ℕ) → List Spot → Rules

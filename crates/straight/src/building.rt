@@ -1,7 +1,7 @@
 ghost use Rattle.std.specs.Prelude.{◌≡◌, ◌≤◌, [], IfOk, vec_capacity};
 ghost use Rattle.straight.specs.Built.{Answer};
 
-use crate::laying::{lay, measure};
+use crate::laying::{Plan, measure};
 use seed::{NODES, Seed};
 use space::{Space, Spot};
 use std::alloc::{AllocError, Global};
@@ -39,15 +39,16 @@ impl Builder {
     ) -> Option<u64>
         ensures { Answer S.Space space.now tree.old self.old.broken.items spots.now allowance.p allowance.q pins seed.now self.new.broken.items result tree.new }
     {
-        if !seed.tree() {
-            return None;
-        }
-        if seed.nodes() != spots.len() {
+        if !seed.tree() || seed.nodes() != spots.len() {
             return None;
         }
         measure(&mut self.walk, space, spots);
-        self.walk.walk(seed, pins, allowance);
-        lay(&self.walk, spots, tree, &mut self.broken);
+        self.walk.walk(seed, pins, allowance).ok()?;
+        let plan = Plan {
+            walk: &self.walk,
+            spots,
+        };
+        plan.lay(tree, &mut self.broken);
         Some(tree.wire())
     }
 

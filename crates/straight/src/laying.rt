@@ -7,50 +7,9 @@ ghost use Rattle.walk.specs.Tables.{rows_of as walkRows};
 ghost use Rattle.straight.specs.Built.{breakpoints_of, spot_at};
 ghost use Rattle.straight.specs.Laying.{Falling, Laying, directs_of};
 
-use space::{Space, Spot};
+use space::{Space, Spot, spot_of};
 use tree::reach;
 use walk::Mark;
-
-/// The spot of a node.
-fn spot_of(spots: &[Spot], v: usize) -> Spot
-    ensures { result ≡ spot_at spots.now v }
-{
-    if v < spots.len() {
-        spots[v]
-    } else {
-        Spot {
-            x: 0,
-            y: 0,
-            level: 0,
-        }
-    }
-}
-
-/// The direct distance of a node; 0 where there is no such node.
-fn direct_of(walk: &walk::Table, v: usize) -> u64
-    ensures value { result ≡ directs (walkRows walk.now) v }
-    ensures short { result ≤ 100000000 }
-{
-    match walk.direct(v) {
-        Some(direct) => direct,
-        None => 0,
-    }
-}
-
-/// The mark of a node; one without an estimate where there is no such node.
-fn mark_of(walk: &walk::Table, v: usize) -> Mark
-    ensures { result ≡ (slice_index_or (walkRows walk.now) v idle).mark }
-{
-    match walk.mark(v) {
-        Some(mark) => mark,
-        None => Mark {
-            est: None,
-            parent: 0,
-            edge: 0,
-            broken: false,
-        },
-    }
-}
 
 /// Gives the walk a row for each spot, with its distance from the driver.
 pub(crate) fn measure<S: Space>(walk: &mut walk::Table, space: &S, spots: &[Spot])
@@ -59,45 +18,64 @@ pub(crate) fn measure<S: Space>(walk: &mut walk::Table, space: &S, spots: &[Spot
 {
     walk.clear();
     let driver = spot_of(spots, 0);
-    for v in 0..spots.len() {
-        walk.add(reach(space, driver, spot_of(spots, v)));
+    for spot in spots {
+        walk.add(reach(space, driver, *spot));
     }
 }
 
-/// Hangs every node on the driver, at its direct distance.
-fn star(walk: &walk::Table, spots: &[Spot], tree: &mut tree::Table)
-    requires some { 1 ≤ length spots.now }
-    requires few { length spots.now ≤ 512 }
-    ensures { Laying (rules_of 0 0 0 (walkRows walk.now)) (marks (walkRows walk.now)) (spot_at spots.now) (length spots.now) 1 (rows_of tree.new) }
-{
-    tree.restart(spot_of(spots, 0));
-    for v in 1..spots.len() {
-        tree.add(0, spot_of(spots, v), direct_of(walk, v));
-    }
+/// A finished walk and the spots of its nodes: what a straight tree is laid by.
+#[derive(Drop)]
+pub(crate) struct Plan<'a> {
+    pub(crate) walk: &'a walk::Table,
+    pub(crate) spots: &'a [Spot],
+    ghost few: { length spots.now ≤ 512 },
 }
 
-/// Lays the rows of the straight tree, and lists the breakpoints.
-pub(crate) fn lay(
-    walk: &walk::Table,
-    spots: &[Spot],
-    tree: &mut tree::Table,
-    broken: &mut Vec<usize>,
-)
-    requires few { length spots.now ≤ 512 }
-    requires room { 512 ≤ vec_capacity broken.old }
-    requires falling { Falling (length spots.now) (marks (walkRows walk.now)) }
-    ensures rows { Laying (rules_of 0 0 0 (walkRows walk.now)) (marks (walkRows walk.now)) (spot_at spots.now) (length spots.now) (length spots.now) (rows_of tree.new) }
-    ensures found { broken.new.items ≡ breakpoints_of (marks (walkRows walk.now)) (length spots.now) }
-    ensures room { vec_capacity broken.new ≡ vec_capacity broken.old }
-{
-    star(walk, spots, tree);
-    broken.clear();
-    for v in 1..spots.len() {
-        let mark = mark_of(walk, v);
-        if mark.broken {
-            broken.push_reserved(v);
-        } else {
-            tree.hang(v, mark.parent, mark.edge);
+impl<'a> Plan<'a> {
+    /// The direct distance of a node; 0 where there is no such node.
+    fn direct(&self, v: usize) -> u64
+        ensures value { result ≡ directs (walkRows self.now.walk.now) v }
+        ensures short { result ≤ 100000000 }
+    {
+        self.walk.direct(v).unwrap_or_default()
+    }
+
+    /// The mark of a node; one without an estimate where there is no such node.
+    fn mark(&self, v: usize) -> Mark
+        ensures { result ≡ (slice_index_or (walkRows self.now.walk.now) v idle).mark }
+    {
+        self.walk.mark(v).unwrap_or_default()
+    }
+
+    /// Hangs every node on the driver, at its direct distance.
+    fn star(&self, tree: &mut tree::Table)
+        requires { 1 ≤ length self.now.spots.now }
+        ensures { Laying (rules_of 0 0 0 (walkRows self.now.walk.now)) (marks (walkRows self.now.walk.now)) (spot_at self.now.spots.now) (length self.now.spots.now) 1 (rows_of tree.new) }
+    {
+        tree.restart(spot_of(self.spots, 0));
+        // Kept: tried `self.spots.iter().enumerate().skip(1)`; the proof didn't close, since the loop then knows no index.
+        for v in 1..self.spots.len() {
+            tree.add(0, spot_of(self.spots, v), self.direct(v));
+        }
+    }
+
+    /// Lays the rows of the straight tree, and lists the breakpoints.
+    pub(crate) fn lay(&self, tree: &mut tree::Table, broken: &mut Vec<usize>)
+        requires room { 512 ≤ vec_capacity broken.old }
+        requires falling { Falling (length self.now.spots.now) (marks (walkRows self.now.walk.now)) }
+        ensures rows { Laying (rules_of 0 0 0 (walkRows self.now.walk.now)) (marks (walkRows self.now.walk.now)) (spot_at self.now.spots.now) (length self.now.spots.now) (length self.now.spots.now) (rows_of tree.new) }
+        ensures found { broken.new.items ≡ breakpoints_of (marks (walkRows self.now.walk.now)) (length self.now.spots.now) }
+        ensures room { vec_capacity broken.new ≡ vec_capacity broken.old }
+    {
+        self.star(tree);
+        broken.clear();
+        for v in 1..self.spots.len() {
+            let mark = self.mark(v);
+            if mark.broken {
+                broken.push_reserved(v);
+            } else {
+                let _ = tree.hang(v, mark.parent, mark.edge);
+            }
         }
     }
 }

@@ -1,3 +1,4 @@
-pub mod Marked
+pub mod Counted
 pub mod Fresh
 pub mod Loop
+pub mod Marked

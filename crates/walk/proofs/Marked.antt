@@ -4,7 +4,6 @@ use mathlib.Core.Path.{fun_ext}
 use Rattle.std.proofs.lemmas.Bool.{cases_eq}
 use Rattle.walk_laws.specs.Walk as laws
 use Rattle.walk_laws.proofs.Steps.{put_same, put_other}
-use Rattle.walk.specs.declared.row.Mark.{Mark}
 use Rattle.walk.specs.declared.row.Row.{Row}
 use Rattle.walk.specs.Marks.{seen, idle, marks, directs, Places, Gone, entered_by, rules_of}
 
@@ -18,23 +17,6 @@ marks_set rows v r h = fun_ext (λ x. go x (cases_eq x v))
         (sym (put_same (marks rows) v (seen r.mark)) ∙ sym (ap (laws.put (marks rows) v (seen r.mark)) s)))
     go x (inr ne) =
         ap (λ w. seen w.mark) (get_or-set_other rows v x r idle ne) ∙ sym (put_other (marks rows) v (seen r.mark) x ne)
-
--- An absent estimate offers nothing.
-pub relax_absent : (rows : List Row) (u v l : ℕ) → (get_or rows u idle).mark.est ≡ None → marks rows ≡ laws.relax u v l (marks rows)
-relax_absent rows u v l h = fun_ext (λ x. go x (cases_eq x v))
-  where
-    S : laws.Table
-    S = marks rows
-
-    m : laws.Mark
-    m = laws.relaxed u l (S u).est (S v)
-
-    same : m ≡ S v
-    same = ap (λ o. laws.relaxed u l o (S v)) h
-
-    go : (x : ℕ) → (x ≡ v) ⊎ (x ≡ v → ⊥) → S x ≡ laws.put S v m x
-    go x (inl s) = ap S s ∙ (sym same ∙ (sym (put_same S v m) ∙ sym (ap (laws.put S v m) s)))
-    go x (inr ne) = sym (put_other S v m x ne)
 
 pub relax_present : (rows : List Row) (u v l e : ℕ) (r : Row) → v < length rows → (get_or rows u idle).mark.est ≡ Some e →
     seen r.mark ≡ laws.offered u l (e + l) (get_or rows v idle).mark.est (seen (get_or rows v idle).mark) →
@@ -67,23 +49,6 @@ part_set f rows v r h s x = go (cases_eq x v)
         ap (λ z. f (get_or (set rows v r) z idle)) e ∙
         (ap f (get_or-set_same rows v r idle h) ∙ (s ∙ sym (ap (λ z. f (get_or rows z idle)) e)))
     go (inr ne) = ap f (get_or-set_other rows v x r idle ne)
-
-pub places_same : (rows : List Row) → Places rows rows
-places_same rows =
-    record { count = refl; from = λ x. refl; gap = λ x. refl; next = λ x. refl; direct = λ x. refl }
-
-pub places_set : (rows : List Row) (v : ℕ) (old : Row) (m : Mark) → v < length rows → old ≡ get_or rows v idle →
-    Places rows
-    (set rows v (record { mark = m; direct = old.direct; from = old.from; gap = old.gap; next = old.next }))
-places_set rows v old m h s =
-    let r : Row = record { mark = m; direct = old.direct; from = old.from; gap = old.gap; next = old.next } in
-    record {
-      count = length-set rows v r;
-      from = part_set (λ z. z.from) rows v r h (ap (λ z. z.from) s);
-      gap = part_set (λ z. z.gap) rows v r h (ap (λ z. z.gap) s);
-      next = part_set (λ z. z.next) rows v r h (ap (λ z. z.next) s);
-      direct = part_set (λ z. z.direct) rows v r h (ap (λ z. z.direct) s);
-    }
 
 -- A row with the next child to try, and a row that was entered from v.
 abbrev pub stepped : Row → ℕ → Row

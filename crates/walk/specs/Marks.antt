@@ -3,6 +3,7 @@ use Rattle.std.specs.Prelude.{◌≡◌, ℕ, ◌+◌, ◌*◌, Bool, true, fals
 use Rattle.walk_laws.specs.Walk as laws
 use Rattle.walk.specs.declared.row.Mark.{Mark}
 use Rattle.walk.specs.declared.row.Row.{Row}
+use Rattle.walk.specs.declared.rules.Rules.{Rules}
 
 abbrev pub seen : Mark → laws.Mark
 seen m = record { est = m.est; parent = m.parent; edge = m.edge; broken = m.broken }
@@ -45,6 +46,9 @@ directs rows v = (slice_index_or rows v idle).direct
 
 abbrev pub rules_of : (p q pins : ℕ) → List Row → laws.Rules
 rules_of p q pins rows = record { p = p; q = q; pins = pins; direct = directs rows }
+
+abbrev pub rules_by : Rules → List Row → laws.Rules
+rules_by R rows = rules_of R.allowance.p R.allowance.q R.pins rows
 
 -- The rows change in their marks alone.
 pub record Places (rows rows' : List Row) : Type 0 where

@@ -1,9 +1,9 @@
 ghost use Rattle.std.specs.Prelude.{◌≡◌, ◌+◌, ◌*◌, ◌≤◌, MatchOption, nat_lt};
-ghost use Rattle.walk.specs.Limits.{Within};
+ghost use Rattle.walk.specs.Limits.{Within, highest};
 
 /// How much longer than its direct distance D a sink's way may be: q times the way is at most p + q times D.
 /// p is at most 1,000, and q is from 1 to 1,000.
-#[derive(Clone, Copy)]
+#[derive(Clone, Copy, Debug, PartialEq, Eq)]
 pub struct Allowance {
     p: u64,
     q: u64,
@@ -15,6 +15,7 @@ impl Allowance {
     pub fn new(p: u64, q: u64) -> Option<Allowance>
         ensures { MatchOption result (Within p q → ⊥) (λ a. Within p q × (a.p ≡ p) × (a.q ≡ q)) }
     {
+        // Kept: `then(|| ..)` proves only with clauses on its closure that say the test again.
         if p <= 1000 && 0 < q && q <= 1000 {
             Some(Allowance { p, q })
         } else {
@@ -36,7 +37,7 @@ impl Allowance {
 
     /// Whether the estimate `e` of a sink is above what is allowed at its direct distance.
     pub(crate) fn exceeded(self, direct: u64, e: u64) -> bool
-        requires { (direct ≤ 100000000) × (e ≤ 102200000000) }
+        requires { (direct ≤ 100000000) × (e ≤ highest) }
         ensures { result ≡ nat_lt ((self.p + self.q) * direct) (self.q * e) }
     {
         let Allowance { p, q } = self;

@@ -4,8 +4,9 @@
 
 mod allowance;
 mod row;
+mod rules;
 mod table;
 
 pub use allowance::Allowance;
 pub use row::Mark;
-pub use table::Table;
+pub use table::{Table, Unfit};

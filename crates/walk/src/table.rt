@@ -4,6 +4,7 @@ ghost use Rattle.walk.specs.Marks.{directs};
 use crate::row::Row;
 
 mod filling;
+mod fitting;
 mod reading;
 mod starting;
 mod stepping;
@@ -16,4 +17,13 @@ pub struct Table {
     ghost room: { 512 ≤ vec_capacity rows },
     ghost few: { length rows.items ≤ 512 },
     ghost near: { (k : ℕ) → directs rows.items k ≤ 100000000 },
+}
+
+/// Why a seed is not walked.
+#[derive(Clone, Copy, Debug, PartialEq, Eq)]
+pub enum Unfit {
+    /// The seed is no tree.
+    NoTree,
+    /// There is not one row for each of the seed's nodes.
+    Rows,
 }

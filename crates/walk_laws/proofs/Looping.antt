@@ -95,8 +95,8 @@ pub record Rise (R : Rules) (n : ℕ) (E : List Edge) (rank : ℕ → ℕ) (tota
   pub fits : (e : ℕ) → (S v).est ≡ Some e → e + gap v ≤ limit
   pub place : Place R n E rank total limit final from gap next (relax v (from v) (gap v) S) (from v) (done + 1)
 
-module _ (R : Rules) (n : ℕ) (E : List Edge) (rank : ℕ → ℕ) (total limit : ℕ) (final : Table) (q : 0 < R.q) (acc : Accepted n E) where
-  module _ (from gap next : ℕ → ℕ) (S : Table) (v done : ℕ) (P : Place R n E rank total limit final from gap next S v done) (u l : ℕ) (found : Least E v (from v) (next v) u l) where
+module _ {R : Rules} {n : ℕ} {E : List Edge} {rank : ℕ → ℕ} {total limit : ℕ} {final : Table} (q : 0 < R.q) (acc : Accepted n E) where
+  module _ {from gap next : ℕ → ℕ} {S : Table} {v done : ℕ} (P : Place R n E rank total limit final from gap next S v done) {u l : ℕ} (found : Least E v (from v) (next v) u l) where
     next_kid : Next E v (from v) u l P.left
     next_kid = grows_next acc P.grows u l found
 
@@ -119,9 +119,9 @@ module _ (R : Rules) (n : ℕ) (E : List Edge) (rank : ℕ → ℕ) (total limit
     down_room e h =
         omega (arith, relax_bounded v u l P.gone S P.bounded u e h, P.way, ap (λ X. wire_of X) next_kid.is)
 
-    pub place_down : (from' gap' next' : ℕ → ℕ) → Descent v u l from gap next from' gap' next' →
+    pub place_down : {from' gap' next' : ℕ → ℕ} → Descent v u l from gap next from' gap' next' →
         Place R n E rank total limit final from' gap' next' (down R v u l S) u (done + 1)
-    place_down from' gap' next' D =
+    place_down {from'} {gap'} {next'} D =
         let b : Forest = next_kid.below in
         let o : Forest = next_kid.others in
         let is : P.left ≡ kid u l b o = next_kid.is in
@@ -178,7 +178,7 @@ module _ (R : Rules) (n : ℕ) (E : List Edge) (rank : ℕ → ℕ) (total limit
             P.placed P.along
 
   -- Going up from v, where no child is left and steps are: to the node w that v was entered from, over the length l.
-  module _ (from gap next : ℕ → ℕ) (S : Table) (v done : ℕ) (P : Place R n E rank total limit final from gap next S v done) where
+  module _ {from gap next : ℕ → ℕ} {S : Table} {v done : ℕ} (P : Place R n E rank total limit final from gap next S v done) where
     rise : (K : Trail) → P.trail ≡ K → P.left ≡ none → done < total → Rise R n E rank total limit final from gap next S v done
     unfolding steps_left
     rise arrived is empty early = absurd (omega (arith, P.steps, ap (λ X. size_of X) empty, ap steps_left is))
@@ -228,8 +228,8 @@ module _ (R : Rules) (n : ℕ) (E : List Edge) (rank : ℕ → ℕ) (total limit
     climbs nothing early = rise P.trail refl (grows_none P.grows nothing) early
 
   -- All steps done: the table is the walk's.
-  pub place_end : (from gap next : ℕ → ℕ) (S : Table) (v : ℕ) → Place R n E rank total limit final from gap next S v total → S ≡ final
-  place_end from gap next S v P =
+  pub place_end : {from gap next : ℕ → ℕ} {S : Table} {v : ℕ} → Place R n E rank total limit final from gap next S v total → S ≡ final
+  place_end {S = S} {v} P =
       sym (steps_none R v P.trail P.left S (omega (arith, P.steps))) ∙ P.ends
 
 -- Before the first step.

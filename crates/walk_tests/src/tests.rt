@@ -1,64 +1,95 @@
+ghost use Rattle.std.specs.Prelude.{ℕ, ◌<◌, ◌≤◌};
+
 use seed::Seed;
 use std::test::Fail;
-use walk::{Allowance, Table};
+use walk::{Allowance, Table, Unfit};
 
 // A seed of n nodes without edges, and the driver's row.
-fn start(seed: &mut Seed, table: &mut Table, n: usize) -> bool {
+fn start(seed: &mut Seed, table: &mut Table, n: usize) -> Result<(), Fail> {
     table.clear();
-    seed.restart(n).is_ok() && table.add(0).is_some()
+    seed.restart(n)?;
+    table.add(0).ok_or("no row for the driver")?;
+    Ok(())
 }
 
-// One more edge, and one more row.
-fn grow(seed: &mut Seed, table: &mut Table, a: usize, b: usize, length: u64, direct: u64) -> bool {
-    seed.join(a, b, length).is_ok() && table.add(direct).is_some()
+// One more edge, and one more row with its direct distance.
+#[derive(Clone, Copy)]
+struct Grown {
+    a: usize,
+    b: usize,
+    length: u64,
+    direct: u64,
+}
+
+// An edge and a row for each of the numbers.
+fn grow<F: Fn(usize) -> Grown>(
+    seed: &mut Seed,
+    table: &mut Table,
+    from: usize,
+    to: usize,
+    edge: F,
+) -> Result<(), Fail>
+    requires { (k : ℕ) → from ≤ k → k < to → F.pre edge k }
+{
+    for k in from..to {
+        let Grown {
+            a,
+            b,
+            length,
+            direct,
+        } = edge(k);
+        seed.join(a, b, length)?;
+        table.add(direct).ok_or("no row for the node")?;
+    }
+    Ok(())
+}
+
+// Ten times the number. Kept: there is no `From` between these two types of 64 bits.
+fn tens(n: usize) -> u64 {
+    n.saturating_mul(10) as u64
 }
 
 // How many breakpoints a walk with the allowance p/q makes; nothing where the seed is not walked.
 fn broken(table: &mut Table, seed: &Seed, pins: usize, p: u64, q: u64) -> Option<usize> {
-    let Some(allowance) = Allowance::new(p, q) else {
-        return None;
-    };
-    if table.walk(seed, pins, allowance) {
-        Some(table.breakpoints())
-    } else {
-        None
-    }
+    let allowance = Allowance::new(p, q)?;
+    table.walk(seed, pins, allowance).ok()?;
+    Some(table.breakpoints())
 }
 
 // Whether the row k has this estimate and this parent, and is a breakpoint or not.
 fn stands(table: &Table, k: usize, est: u64, parent: usize, broken: bool) -> bool {
-    match table.mark(k) {
-        Some(mark) => mark.est == Some(est) && mark.parent == parent && mark.broken == broken,
-        None => false,
-    }
+    table.mark(k).is_some_and(|mark| {
+        mark.est == Some(est) && mark.parent == parent && mark.broken == broken
+    })
 }
 
 // A daisy chain of 512 nodes with edges of length 10, laid round in a ring: the nodes from 257 on are nearer the other way round.
-fn chain(seed: &mut Seed, table: &mut Table) -> bool {
-    for v in 1..512 {
-        let steps = if v <= 256 { v } else { 512 - v };
-        if !grow(seed, table, v - 1, v, 10, steps as u64 * 10) {
-            return false;
-        }
-    }
-    true
+fn chain(seed: &mut Seed, table: &mut Table) -> Result<(), Fail> {
+    grow(
+        seed,
+        table,
+        1,
+        512,
+        |v| Grown {
+            a: v.saturating_sub(1),
+            b: v,
+            length: 10,
+            direct: tens(v.min(512usize.saturating_sub(v))),
+        },
+    )
 }
 
 // Whether each node of the chain hangs on the one before it.
 fn is_kept(table: &Table) -> bool {
-    for v in 1..512 {
-        if !stands(table, v, v as u64 * 10, v - 1, false) {
-            return false;
-        }
-    }
-    true
+    (1..512).all(|v| stands(table, v, tens(v), v - 1, false))
 }
 
 #[test]
 fn walks_a_daisy_chain(rt: HostRuntime) -> Result<(), Fail> {
     let mut seed = Seed::new(rt.alloc())?;
     let mut table = Table::new(rt.alloc())?;
-    assert!(rt; start(&mut seed, &mut table, 512) && chain(&mut seed, &mut table));
+    start(&mut seed, &mut table, 512)?;
+    chain(&mut seed, &mut table)?;
     assert!(rt; broken(&mut table, &seed, 512, 1, 4) == Some(32));
     assert!(rt; stands(&table, 0, 0, 0, false) && stands(&table, 256, 2560, 255, false));
     assert!(rt; stands(&table, 257, 2550, 258, false) && stands(&table, 284, 2280, 285, false));
@@ -70,22 +101,39 @@ fn walks_a_daisy_chain(rt: HostRuntime) -> Result<(), Fail> {
 }
 
 // The hub 1 is 10 from the driver and 10 from each other node; an even node is as far from the driver as by the hub, an odd one is not.
-fn leaves(seed: &mut Seed, table: &mut Table) -> bool {
-    for v in 2..512 {
-        let direct = if v % 2 == 0 { 20 } else { 12 };
-        if !grow(seed, table, v, 1, 10, direct) {
-            return false;
-        }
-    }
-    true
+fn leaves(seed: &mut Seed, table: &mut Table) -> Result<(), Fail> {
+    grow(
+        seed,
+        table,
+        2,
+        512,
+        |v| Grown {
+            a: v,
+            b: 1,
+            length: 10,
+            direct: if v % 2 == 0 { 20 } else { 12 },
+        },
+    )
 }
 
 #[test]
 fn breaks_every_other_leaf_of_a_star(rt: HostRuntime) -> Result<(), Fail> {
     let mut seed = Seed::new(rt.alloc())?;
     let mut table = Table::new(rt.alloc())?;
-    assert!(rt; start(&mut seed, &mut table, 512));
-    assert!(rt; grow(&mut seed, &mut table, 0, 1, 10, 10) && leaves(&mut seed, &mut table));
+    start(&mut seed, &mut table, 512)?;
+    grow(
+        &mut seed,
+        &mut table,
+        0,
+        1,
+        |v| Grown {
+            a: v,
+            b: 1,
+            length: 10,
+            direct: 10,
+        },
+    )?;
+    leaves(&mut seed, &mut table)?;
     assert!(rt; broken(&mut table, &seed, 512, 1, 2) == Some(255));
     assert!(rt; stands(&table, 1, 10, 0, false) && stands(&table, 510, 20, 1, false));
     assert!(rt; stands(&table, 511, 12, 1, true));
@@ -93,33 +141,44 @@ fn breaks_every_other_leaf_of_a_star(rt: HostRuntime) -> Result<(), Fail> {
 }
 
 // The pins 1 to 255, each 5 from its point of the spine. An even pin is no further from the driver than that point.
-fn teeth(seed: &mut Seed, table: &mut Table) -> bool {
-    for i in 1..256 {
-        let more = if i % 2 == 0 { 0 } else { 5 };
-        if !grow(seed, table, 255 + i, i, 5, i as u64 * 10 + more) {
-            return false;
-        }
-    }
-    true
+fn teeth(seed: &mut Seed, table: &mut Table) -> Result<(), Fail> {
+    grow(
+        seed,
+        table,
+        1,
+        256,
+        |i| Grown {
+            a: i.saturating_add(255),
+            b: i,
+            length: 5,
+            direct: tens(i).saturating_add(if i % 2 == 0 { 0 } else { 5 }),
+        },
+    )
 }
 
 // The Steiner points from 256 on, 10 apart and each said to stand on the driver.
-fn spine(seed: &mut Seed, table: &mut Table) -> bool {
-    for v in 256..511 {
-        let before = if v == 256 { 0 } else { v - 1 };
-        if !grow(seed, table, before, v, 10, 0) {
-            return false;
-        }
-    }
-    true
+fn spine(seed: &mut Seed, table: &mut Table) -> Result<(), Fail> {
+    grow(
+        seed,
+        table,
+        256,
+        511,
+        |v| Grown {
+            a: if v == 256 { 0 } else { v.saturating_sub(1) },
+            b: v,
+            length: 10,
+            direct: 0,
+        },
+    )
 }
 
 #[test]
 fn breaks_every_other_tooth_of_a_comb(rt: HostRuntime) -> Result<(), Fail> {
     let mut seed = Seed::new(rt.alloc())?;
     let mut table = Table::new(rt.alloc())?;
-    assert!(rt; start(&mut seed, &mut table, 511));
-    assert!(rt; teeth(&mut seed, &mut table) && spine(&mut seed, &mut table));
+    start(&mut seed, &mut table, 511)?;
+    teeth(&mut seed, &mut table)?;
+    spine(&mut seed, &mut table)?;
     assert!(rt; broken(&mut table, &seed, 256, 0, 1) == Some(127));
     assert!(rt; stands(&table, 254, 2540, 509, true) && stands(&table, 255, 2555, 510, false));
     assert!(rt; stands(&table, 510, 2550, 509, false));
@@ -135,14 +194,30 @@ fn breaks_every_other_tooth_of_a_comb(rt: HostRuntime) -> Result<(), Fail> {
 fn refuses_what_is_no_tree(rt: HostRuntime) -> Result<(), Fail> {
     let mut seed = Seed::new(rt.alloc())?;
     let mut table = Table::new(rt.alloc())?;
-    assert!(rt; broken(&mut table, &seed, 0, 1, 4).is_none(), "no nodes");
-    assert!(rt; start(&mut seed, &mut table, 2) && table.add(7).is_some());
-    assert!(rt; broken(&mut table, &seed, 2, 1, 4).is_none(), "two parts");
-    assert!(rt; seed.join(0, 1, 7).is_ok() && broken(&mut table, &seed, 2, 1, 4) == Some(0));
+    let quarter = Allowance::new(1, 4).ok_or("no allowance")?;
+    assert_eq!(rt;
+        table.walk(&seed, 0, quarter),
+        Err(Unfit::NoTree),
+        "no nodes"
+    );
+    start(&mut seed, &mut table, 2)?;
+    assert!(rt; table.add(7).is_some());
+    assert_eq!(rt;
+        table.walk(&seed, 2, quarter),
+        Err(Unfit::NoTree),
+        "two parts"
+    );
+    seed.join(0, 1, 7)?;
+    assert!(rt; broken(&mut table, &seed, 2, 1, 4) == Some(0));
     assert!(rt;
         broken(&mut table, &seed, 2, 1, 0).is_none(),
         "no allowance"
     );
-    assert!(rt; table.add(3).is_some() && broken(&mut table, &seed, 2, 1, 4).is_none());
+    assert!(rt; table.add(3).is_some());
+    assert_eq!(rt;
+        table.walk(&seed, 2, quarter),
+        Err(Unfit::Rows),
+        "a row too many"
+    );
     Ok(())
 }

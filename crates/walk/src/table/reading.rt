@@ -11,34 +11,20 @@ impl Table {
     pub fn mark(&self, k: usize) -> Option<Mark>
         ensures { result ≡ mark_at (rows_of self.now) k }
     {
-        if k < self.rows.len() {
-            Some(self.rows[k].mark)
-        } else {
-            None
-        }
+        self.rows.get(k).map(|row| row.mark)
     }
 
     /// The direct distance of the row k; `None` where there is no such row.
     pub fn direct(&self, k: usize) -> Option<u64>
         ensures { result ≡ direct_at (rows_of self.now) k }
     {
-        if k < self.rows.len() {
-            Some(self.rows[k].direct)
-        } else {
-            None
-        }
+        self.rows.get(k).map(|row| row.direct)
     }
 
     /// How many rows are marked as breakpoints.
     pub fn breakpoints(&self) -> usize
         ensures { result ≡ sum_to (break_at (marks (rows_of self.now))) (length (rows_of self.now)) }
     {
-        let mut count = 0;
-        for k in 0..self.rows.len() {
-            if self.rows[k].mark.broken {
-                count += 1;
-            }
-        }
-        count
+        self.rows.iter().filter(|row| row.mark.broken).count()
     }
 }

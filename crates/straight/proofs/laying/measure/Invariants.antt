@@ -6,5 +6,5 @@ use Rattle.straight.specs.Laying.{directs_of}
 use Rattle.straight.proofs.laying.measure.Given as goal
 
 -- the rows have the distances of the spots passed
-abbrev pub invariant-loop-v : goal.invariant-loop-v
-invariant-loop-v g l = directs_of (rows_of l.walk) ≡ map (reach_of g.S.Space l.space (spot_at l.spots 0)) (take l.v l.spots)
+abbrev pub invariant-loop-spot : goal.invariant-loop-spot
+invariant-loop-spot g l = directs_of (rows_of l.walk) ≡ map (reach_of g.S.Space l.space (spot_at l.spots 0)) (take l.spot-index l.spots)

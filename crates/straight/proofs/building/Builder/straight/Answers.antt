@@ -1,5 +1,4 @@
-use Rattle.std.proofs.Common.{◌≡◌, ◌+◌, length, vec_items, sym, refl, ◌∙◌, arith}
-use Rattle.std.proofs.lemmas.Bool.{eqb-false}
+use Rattle.std.proofs.Common.{◌≡◌, ◌+◌, length, vec_items, sym, ◌∙◌, arith}
 use Rattle.seed.specs.Seeds.{edges_of, nodes_of}
 use Rattle.tree.specs.Hooks.{reach_of}
 use Rattle.tree.specs.Tables.{rows_of}
@@ -8,17 +7,8 @@ use Rattle.straight.proofs.Spaced.{laid_measures}
 use Rattle.straight.proofs.Whole.{tree_from_test, whole_falls, whole_straight}
 use Rattle.straight.proofs.building.Builder.straight.Goals as goal
 
-pub returns-then-not-tree : goal.returns-then-not-tree
-returns-then-not-tree g c = (λ m. eqb-false _ _ (sym c.if-not-tree.ensures.test) m.0, refl, refl)
-
-pub returns-then-nodes-spots : goal.returns-then-nodes-spots
-returns-then-nodes-spots g c = (λ m. c.if-nodes-spots.true (c.nodes.ensures ∙ m.1), refl, refl)
-
-pub measure-requires : goal.measure-requires
-measure-requires g c = omega (arith, c.nodes.ensures, c.if-nodes-spots.false, c.args.seed.now.few)
-
-pub lay-requires : goal.lay-requires
-lay-requires g c =
+pub lay-requires-clause-falling : goal.lay-requires-clause-falling
+lay-requires-clause-falling g c =
     let seed = c.args.seed.now in
     let spots = c.args.spots.now in
     let d = reach_of g.S.Space c.args.space.now in
@@ -29,14 +19,7 @@ lay-requires g c =
     let new = walkRows c.walk.new.self in
     let tree : length E + 1 ≡ n = tree_from_test (length E + 1) n c.if-not-tree.ensures.test in
     let size : n ≡ length spots = sym c.nodes.ensures ∙ c.if-nodes-spots.false in
-    record {
-      few = omega (arith, size, seed.few);
-      room = c.args.self.now.room;
-      falling = whole_falls d spots a.p a.q c.args.pins n E old new c.walk.result (omega (arith, a.within.1)) seed.sound tree size c.measure.ensures c.walk.ensures.taken c.walk.ensures.walked c.walk.ensures.kept;
-    }
-
-pub invariant_of-self : goal.invariant_of-self
-invariant_of-self g c = omega (arith, c.lay.ensures.room, c.args.self.now.room)
+    whole_falls d spots a.p a.q c.args.pins n E old new c.walk.result (omega (arith, a.within.1)) seed.sound tree size c.measure.ensures c.walk.ensures.taken c.walk.ensures.walked c.walk.ensures.kept
 
 pub returns : goal.returns
 returns g c =

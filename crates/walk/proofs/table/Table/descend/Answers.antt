@@ -5,12 +5,8 @@ use Rattle.walk.specs.Marks.{idle}
 use Rattle.walk.proofs.Marked.{gone_rows, stepped}
 use Rattle.walk.proofs.table.Table.descend.Goals as goal
 
-pub enter-requires : goal.enter-requires
-enter-requires c =
-    record {
-      at = omega (arith, c.relax.ensures.places.count, c.requires.far);
-      room = λ e h. c.requires.room e (sym (ap (λ S. (S c.args.u).est) c.relax.ensures.after) ∙ h);
-    }
+pub enter-requires-clause-room : goal.enter-requires-clause-room
+enter-requires-clause-room c e h = c.requires.room e (sym (ap (λ S. (S c.args.u).est) c.relax.ensures.after) ∙ h)
 
 pub returns : goal.returns
 returns c =
@@ -25,5 +21,5 @@ returns c =
     omega (arith, c.requires.far, length-set rows2 c.args.v (stepped a (c.args.u + 1))) in
     let at = get_or_read rows2 c.args.v a hv c.index_mut.ensures.value idle in
     let to = get_or_read (set rows2 c.args.v (stepped a (c.args.u + 1))) c.args.u b hu c.index_mut-row.ensures.value idle in
-    gone_rows c.args.allowance.p c.args.allowance.q c.args.pins c.args.v c.args.u c.args.l rows rows1 rows2 a b c.requires.near c.requires.far
+    gone_rows c.args.rules.allowance.p c.args.rules.allowance.q c.args.rules.pins c.args.v c.args.u c.args.l rows rows1 rows2 a b c.requires.near c.requires.far
     c.requires.apart c.relax.ensures.after c.relax.ensures.places c.enter.ensures.after c.enter.ensures.places at to
