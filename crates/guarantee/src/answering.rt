@@ -1,62 +1,86 @@
 // One call out of a list.
 ghost use Rattle.std.specs.Prelude.{◌≡◌};
 ghost use Rattle.net.specs.Nets.{seen};
-ghost use Rattle.net_laws.specs.Answers.{Answers, JoinAnswers};
-ghost use Rattle.net_laws.specs.Worlds.{Whole, joining, wiring};
+ghost use Rattle.net.proofs.Owned.{own_meets};
+ghost use Rattle.net_laws.specs.Answers.{JoinAnswers, World};
+ghost use Rattle.net_laws.specs.Worlds.{Keeps, joining, wiring};
+ghost use Rattle.net_laws.specs.declared.call.JoinCall.{JoinCall as AnyCall};
+ghost use Rattle.net_laws.specs.declared.call.JoinCall.TheVariants.{Wire};
 ghost use Rattle.guarantee.specs.Kept.{counted};
 
 use net::Net;
 use net_laws::{Call, Fault, JoinCall};
 use space::{Joining, Space};
 
+/// A kind of call that nets in the spaces `S` take.
+pub trait NetCall<S: Space> {
+    // The call among those of all kinds.
+    ghost among: { Self → AnyCall };
+
+    // What a space is to the calls of this kind.
+    ghost world: { S → World };
+
+    /// Makes the call.
+    fn make(&self, net: &mut Net<S>) -> Result<u64, Fault>
+        ensures answer { JoinAnswers (world net.old.space) (seen net.old.board) (seen net.new.board) (among self.now) result }
+        ensures stays { net.new.space ≡ net.old.space };
+
+    // Every space keeps the laws.
+    ghost keeps: { (s : S) → Keeps (world s) };
+}
+
 /// The number of a node as an answer.
 fn number(answer: Result<usize, Fault>) -> Result<u64, Fault>
     ensures { result ≡ answer }
 {
-    match answer {
-        Ok(k) => Ok(k as u64),
-        Err(fault) => Err(fault),
-    }
+    // Kept: there is no `From` between these two types of 64 bits.
+    answer.map(|k| k as u64)
 }
 
 /// An answer without a number, as 0.
 fn count(answer: Result<(), Fault>) -> Result<u64, Fault>
     ensures { result ≡ counted answer }
 {
-    match answer {
-        Ok(_) => Ok(0),
-        Err(fault) => Err(fault),
-    }
+    answer.map(|()| 0)
 }
 
-/// Makes the call.
-pub(crate) fn make<S: Space>(net: &mut Net<S>, call: Call) -> Result<u64, Fault>
-    ensures answer { Whole S.Space net.old.space (seen net.old.board) → Answers (wiring S.Space net.old.space) (seen net.old.board) (seen net.new.board) call result × Whole S.Space net.old.space (seen net.new.board) }
-    ensures stays { net.new.space ≡ net.old.space }
-{
-    match call {
-        Call::Pin(spot) => number(net.pin(spot)),
-        Call::Allow(p, q) => count(net.allow(p, q)),
-        Call::Steiner(spot) => number(net.steiner(spot)),
-        Call::Edge(a, b) => net.edge(a, b),
-        Call::Unseed => {
-            net.unseed();
-            Ok(0)
+impl<S: Space> NetCall<S> for Call {
+    ghost among = { Wire };
+
+    ghost world = { wiring S.Space };
+
+    fn make(&self, net: &mut Net<S>) -> Result<u64, Fault> {
+        // Kept: a call is a value that users list, so what it does is a match; closures would hide it from the log.
+        match *self {
+            Call::Pin(spot) => number(net.pin(spot)),
+            Call::Allow(p, q) => count(net.allow(p, q)),
+            Call::Steiner(spot) => number(net.steiner(spot)),
+            Call::Edge(a, b) => net.edge(a, b),
+            Call::Unseed => {
+                net.unseed();
+                Ok(0)
+            }
+            Call::Span => net.span(),
+            Call::Straight => net.straight(),
+            Call::Hook => net.hook(),
         }
-        Call::Span => net.span(),
-        Call::Straight => net.straight(),
-        Call::Hook => net.hook(),
     }
+
+    ghost keeps = { λ s. record { metric = S.metric s; meets = λ h. own_meets _ _ _ (S.metric s h) } };
 }
 
-/// Makes the call over a joining space.
-pub(crate) fn make_joining<S: Joining>(net: &mut Net<S>, call: JoinCall) -> Result<u64, Fault>
-    ensures answer { Whole S.Space net.old.space (seen net.old.board) → JoinAnswers (joining S.Space S.Joining.own net.old.space) (seen net.old.board) (seen net.new.board) call result × Whole S.Space net.old.space (seen net.new.board) }
-    ensures stays { net.new.space ≡ net.old.space }
-{
-    match call {
-        JoinCall::Wire(call) => make(net, call),
-        JoinCall::Joined => net.joined(),
-        JoinCall::Share => net.share(),
+impl<S: Joining> NetCall<S> for JoinCall {
+    ghost among = { λ c. c };
+
+    ghost world = { joining S.Space S.Joining.own };
+
+    fn make(&self, net: &mut Net<S>) -> Result<u64, Fault> {
+        match *self {
+            JoinCall::Wire(call) => call.make(net),
+            JoinCall::Joined => net.joined(),
+            JoinCall::Share => net.share(),
+        }
     }
+
+    ghost keeps = { λ s. record { metric = S.metric s; meets = S.meets s } };
 }

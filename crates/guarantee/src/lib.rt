@@ -5,4 +5,5 @@
 mod answering;
 mod running;
 
-pub use running::{Made, guarantee, run, run_joining};
+pub use answering::NetCall;
+pub use running::{Made, guarantee, run};

@@ -1,51 +1,38 @@
 // Lists of calls, made on a net.
-ghost use Rattle.std.specs.Prelude.{◌≡◌, ℕ, ◌≤◌, min, List, length, take, Result as Answered, slice_index_or};
+ghost use Rattle.std.specs.Prelude.{◌≡◌, ℕ, ◌≤◌, min, map, length, take, Result as Answered, slice_index_or};
 ghost use Rattle.net.specs.Nets.{seen};
 ghost use Rattle.net_laws.specs.States.{fresh};
-ghost use Rattle.net_laws.specs.Worlds.{Whole, joining as joiningWorld, wiring as wiringWorld};
+ghost use Rattle.net_laws.specs.Worlds.{joining as joiningWorld, wiring as wiringWorld};
 ghost use Rattle.net_laws.specs.declared.fault.Fault.{Fault as Refusal};
 ghost use Rattle.guarantee.specs.Kept.{Kept, wired};
 
-use crate::answering::{make, make_joining};
+use crate::answering::NetCall;
 use net::Net;
 use net_laws::{Call, Fault, JoinCall};
 use space::{Joining, Space};
 
 /// Makes the calls on the net in their order, as many as there are places for their answers, and writes each answer down. Answers how many
 /// were made; the places past them stay.
-pub fn run<S: Space>(net: &mut Net<S>, calls: &[Call], answers: &mut [Result<u64, Fault>]) -> usize
-    ensures count { result ≡ min (length calls.now) (length answers.old) }
-    ensures kept { Whole S.Space net.old.space (seen net.old.board) → Kept (wiringWorld S.Space net.old.space) (seen net.old.board) (wired (take result calls.now)) (take result answers.new) (seen net.new.board) × Whole S.Space net.old.space (seen net.new.board) }
-    ensures rest { (k : ℕ) (d : Answered ℕ Refusal) → result ≤ k → slice_index_or answers.new k d ≡ slice_index_or answers.old k d }
-    ensures stays { net.new.space ≡ net.old.space }
-{
-    let count = calls.len().min(answers.len());
-    for i in 0..count {
-        answers[i] = make(net, calls[i]);
-    }
-    count
-}
-
-/// The same over a joining space, where there are two calls more.
-pub fn run_joining<S: Joining>(
+pub fn run<S: Space, C: NetCall<S>>(
     net: &mut Net<S>,
-    calls: &[JoinCall],
+    calls: &[C],
     answers: &mut [Result<u64, Fault>],
 ) -> usize
     ensures count { result ≡ min (length calls.now) (length answers.old) }
-    ensures kept { Whole S.Space net.old.space (seen net.old.board) → Kept (joiningWorld S.Space S.Joining.own net.old.space) (seen net.old.board) (take result calls.now) (take result answers.new) (seen net.new.board) × Whole S.Space net.old.space (seen net.new.board) }
+    ensures kept { Kept (C.world net.old.space) (seen net.old.board) (map C.among (take result calls.now)) (take result answers.new) (seen net.new.board) }
     ensures rest { (k : ℕ) (d : Answered ℕ Refusal) → result ≤ k → slice_index_or answers.new k d ≡ slice_index_or answers.old k d }
     ensures stays { net.new.space ≡ net.old.space }
 {
     let count = calls.len().min(answers.len());
-    for i in 0..count {
-        answers[i] = make_joining(net, calls[i]);
+    // Kept: tried `answers.iter_mut().zip(calls)`; the proof did not close, since it knows nothing of what is written so.
+    for (i, call) in calls[..count].iter().enumerate() {
+        answers[i] = call.make(net);
     }
     count
 }
 
 /// How many calls were made on the net in a wiring space, and on the one in a joining space.
-#[derive(Clone, Copy)]
+#[derive(Clone, Copy, Debug, PartialEq, Eq)]
 pub struct Made {
     pub wiring: usize,
     pub joining: usize,
@@ -69,7 +56,7 @@ pub fn guarantee<W: Space, J: Joining>(
     ensures joining_stays { joining.new.space ≡ joining.old.space }
 {
     let first = run(wiring, calls, answers);
-    let second = run_joining(joining, joining_calls, joining_answers);
+    let second = run(joining, joining_calls, joining_answers);
     Made {
         wiring: first,
         joining: second,

@@ -1,15 +1,21 @@
 -- Boards with equal parts are equal, and what the first spots of a board span. Assumes nothing.
-use Rattle.std.proofs.Common.{◌≡◌, ℕ, ◌+◌, ◌<◌, ◌≤◌, true, List, length, take, vec_items, vec_capacity, ap, ◌∙◌, subst, arith, length-take, get_or-take}
+use Rattle.std.proofs.Common.{◌≡◌, ℕ, ◌+◌, ◌<◌, ◌≤◌, true, Bool, Decides, List, length, Ok, Err, Result, ⊎_elim, take, vec_items, vec_capacity, ap, ◌∙◌, subst, arith, length-take, get_or-take}
+use Rattle.std.specs.Result.{result_unwrap_or}
 use mathlib.Core.HLevel.{is_prop→PathP, →_prop}
 use native.Mathlib.Bridge.{le_prop}
 use native.Mathlib.Nat.{ℕ_set}
 use Rattle.forest.specs.declared.Edge.{Edge}
 use Rattle.seed.specs.Seeds.{nodes_of}
+use Rattle.seed.specs.declared.store.Refusal.{Refusal}
+use Rattle.seed.specs.declared.store.Refusal.TheVariants as refusal
+use Rattle.seed.specs.declared.store.Seed.{Seed}
 use Rattle.space.specs.declared.Space.{Ghosts}
 use Rattle.space.specs.declared.spot.Spot.{Spot}
+use Rattle.span.specs.Grown.{Grown, Spanned}
 use Rattle.span.specs.Lengths.{length_of, lengths, spot_of}
 use Rattle.span.specs.Spanning.{Spanning}
 use Rattle.span.proofs.Steps.{spanning_agrees}
+use Rattle.tree.specs.Hooks.{reach_of}
 use Rattle.tree.specs.Tables.{rows_of}
 use Rattle.net.specs.declared.board.Board.{Board}
 
@@ -30,6 +36,25 @@ same_board a b s p l e u t = λ i.
       tall = is_prop→PathP (λ j. u j ≡ true → length (vec_items (s j)) ≤ length (rows_of (t j))) (λ j. →_prop le_prop) a.tall b.tall i;
       two = is_prop→PathP (λ j. u j ≡ true → 2 ≤ p j) (λ j. →_prop le_prop) a.two b.two i;
     }
+
+-- of some pins that a seed has room for, a seed is grown
+pub grown : {X : Type 0} (G : Ghosts X) (s : X) (pins : List Spot) (t₀ : Seed) (r : Result ℕ Refusal) (t : Seed) → Grown G s pins t₀ r t → 0 < length pins → length pins ≤ 512 → Spanned G s pins (result_unwrap_or r 0) t
+grown G s pins t₀ (Ok w) t h some few = h
+grown G s pins t₀ (Err refusal.Outside) t h some few = ⊎_elim (λ e. absurd (omega (arith, e))) (λ l. absurd (omega arith)) h.0
+grown G s pins t₀ (Err refusal.Joined) t h some few = absurd h
+grown G s pins t₀ (Err refusal.Short) t h some few = absurd h
+grown G s pins t₀ (Err refusal.Long) t h some few = absurd h
+
+-- a spot that is apart from the first spots is apart from those numbers among all spots
+pub first_apart : {X : Type 0} (G : Ghosts X) (s : X) (z : Spot) (some spots : List Spot) (n : ℕ) → some ≡ spots → n ≤ length spots → (b : Bool) → Decides b ((k : ℕ) → k < length (take n some) → 1 ≤ reach_of G s (spot_of (take n some) k) z) → Decides b ((k : ℕ) → k < n → 1 ≤ reach_of G s (spot_of spots k) z)
+first_apart G s z some spots n e h b d =
+    let P : List Spot → Type 0 = λ xs. Decides b ((k : ℕ) → k < length (take n xs) → 1 ≤ reach_of G s (spot_of (take n xs) k) z) in
+    let f = subst P e d in
+    let m : length (take n spots) ≡ n = simp length-take (omega arith) in
+    let here : (k : ℕ) → k < n → spot_of (take n spots) k ≡ spot_of spots k = λ k l. rw get_or-take in (
+      λ t k l. omega (arith, f.0 t k (omega (arith, m)), ap (λ x. reach_of G s x z) (here k l)),
+      λ q. f.1 (λ k l. omega (arith, q k (omega (arith, m)), ap (λ x. reach_of G s x z) (here k (omega (arith, m))))),
+    )
 
 -- what the first spots span is spanned by those numbers among all spots
 pub first_span : {X : Type 0} (G : Ghosts X) (s : X) (spots front : List Spot) (n : ℕ) → front ≡ take n spots → n ≤ length spots → (E : List Edge) → Spanning (length front) (lengths G s front) E → Spanning n (lengths G s spots) E

@@ -1,16 +1,19 @@
 -- The breakpoints of a straight tree are rows on the driver that can be joined. Assumes nothing.
-use Rattle.std.proofs.Common.{◌≡◌, ℕ, zero, suc, ◌+◌, ◌<◌, ◌≤◌, Bool, true, false, cond, ◌||◌, eqb, List, [], ◌∷◌, ◌++◌, length, get_or, Some, None, vec_items, Option, sym, refl, ap, ◌∙◌, subst, ⊎_elim, arith}
-use Rattle.std.proofs.lemmas.List.{append-nil, get_or_append_left, get_or_default, get_or_push, length_push}
+use Rattle.std.proofs.Common.{◌≡◌, ℕ, zero, suc, ◌+◌, ◌<◌, ◌≤◌, Bool, true, false, cond, ◌||◌, eqb, List, [], ◌∷◌, ◌++◌, length, get_or, Some, None, Ok, vec_items, Option, sym, refl, ap, ◌∙◌, subst, ⊎_elim, arith}
+use Rattle.std.proofs.lemmas.List.{append-nil, get_or_append_left, get_or_push, length_push}
 use Rattle.std.proofs.lemmas.Bool.{cases_Bool, cases_eq, cond-false, cond-true}
+use Rattle.std.specs.Option.{unwrap_or}
 use Rattle.build_laws.specs.Joining.{Joins, far_of, meet_of, meet_row}
 use Rattle.build_laws.specs.Joining.Joins.{done, join}
 use Rattle.build_laws.proofs.Building.{straight_row_lem}
 use Rattle.forest.specs.declared.Edge.{Edge}
 use Rattle.build_laws.specs.Straight.{straight}
-use Rattle.joined.specs.Joinings.{Joinable, JoinedBy}
-use Rattle.net_laws.specs.Answers.{JoinedTree, breakpoints, broken_if, marks_of, rules_of}
+use Rattle.joined.proofs.Keeping.{among_here}
+use Rattle.joined.specs.Joinings.{Joinable, JoinedBy, Whole}
+use Rattle.net_laws.specs.Answers.{JoinedAnswer, JoinedTree, breakpoints, broken_if, marks_of, rules_of}
+use Rattle.net_laws.specs.States.{State, with_tree}
+use Rattle.net_laws.specs.Worlds.{cut, joining}
 use Rattle.order.specs.Firsts.{Among}
-use Rattle.order.proofs.Finding.{among_at}
 use Rattle.seed.specs.Seeds.{edges_of, nodes_of}
 use Rattle.share.specs.Shares.{join_of}
 use Rattle.space.specs.declared.Joining.{Ghosts as JoinGhosts}
@@ -22,11 +25,13 @@ use Rattle.straight.proofs.Mixed.{among_breakpoints}
 use Rattle.tree.specs.Hooks.{reach_of}
 use Rattle.tree.specs.Tables.{rows_of}
 use Rattle.tree.specs.declared.table.Table.{Table as Tree-table}
-use Rattle.tree_laws.specs.Trees.{add, hang, spot_of, up}
+use Rattle.tree_laws.specs.Trees.{add, hang, spot_of, up, wire_of}
 use Rattle.tree_laws.specs.declared.Row.{Row}
 use Rattle.tree_laws.proofs.Adding.{add_length}
 use Rattle.tree_laws.proofs.Hanging.{hang_length}
 use Rattle.walk_laws.specs.Walk.{Rules, Table}
+use Rattle.walk.specs.declared.allowance.Allowance.{Allowance}
+use Rattle.net.specs.Nets.{ReadyAnswer, seen}
 use Rattle.net.specs.declared.board.Board.{Board}
 use Rattle.net.proofs.Builds.{straight_count}
 
@@ -67,7 +72,7 @@ module _ (S : Table) where
       let first : get_or (xs ++ n ∷ []) i 0 ≡ get_or xs i 0 = get_or_append_left xs (n ∷ []) 0 i (omega (arith, long)) in
       ⊎_elim
       (λ (e : i + 1 ≡ length xs).
-      let at : Among (get_or xs i 0) xs = among_at xs i (get_or xs i 0) (omega arith) (get_or_default xs i 0 (get_or xs i 0) (omega arith)) in
+      let at : Among (get_or xs i 0) xs = among_here xs i 0 (omega arith) in
       omega (arith, first, get_or_push xs n 0 (i + 1) (sym e), below (get_or xs i 0) at))
       (λ (ne : i + 1 ≡ length xs → ⊥).
       let l : i + 1 < length xs = omega (arith, long) in
@@ -117,9 +122,10 @@ joins_more d m {rows} (join a b far some j) =
     let e : length (meet_row d m rows a b) ≡ length rows + 1 = hang_length two b (length rows) (d z (spot_of rows b)) ∙ hang_length one a (length rows) (d z (spot_of rows a)) ∙ add_length rows 0 z (far_of d m rows a b) in
     omega (arith, e, joins_more d m j)
 
-pub joined_keeps : {X : Type 0} (G : Ghosts X) (J : JoinGhosts X) (s : X) (t₀ : Tree-table) (group : List ℕ) (r : Option ℕ) (t : Tree-table) → JoinedBy G J s t₀ group r t → length (rows_of t₀) ≤ length (rows_of t)
-joined_keeps G J s t₀ group None t h = omega (arith, ap (λ (x : Tree-table). length (rows_of x)) h.1)
-joined_keeps G J s t₀ group (Some w) t h = joins_more (reach_of G s) (join_of G J s) h.joins
+-- a group that can be joined is joined
+pub joined_some : {X : Type 0} (G : Ghosts X) (J : JoinGhosts X) (s : X) (t₀ : Tree-table) (group : List ℕ) (r : Option ℕ) (t : Tree-table) → JoinedBy G J s t₀ group r t → Joinable (rows_of t₀) group → Whole G J s (rows_of t₀) group (unwrap_or r 0) (rows_of t)
+joined_some G J s t₀ group None t h j = absurd (h.0 j)
+joined_some G J s t₀ group (Some w) t h j = h
 
 pub joined_tree : (d : Spot → Spot → ℕ) (m : Spot → Spot → Spot → Spot) (b : Board) (p q : ℕ) (found : List ℕ) (w : ℕ) (rows after : List Row) → Straightened d (vec_items b.spots) p q b.pins (nodes_of b.seed) (edges_of b.seed) found w rows → Joins d m rows found after → JoinedTree d m (vec_items b.spots) b.pins p q (edges_of b.seed) after
 joined_tree d m b p q found w rows after s j =
@@ -134,3 +140,9 @@ joined_tree d m b p q found w rows after s j =
       straight = record { planted = h.walked.planted; built = h.rows ∙ ap (λ S. straight (rules_of d spots b.pins p q) S (spot_at spots) (length spots)) h.walked.is };
       joins = subst Q e j;
     }
+
+-- a build of a board that is ready, joined after it, answers as a net asks
+pub joined_told : {X : Type 0} (G : Ghosts X) (J : JoinGhosts X) (s : X) (b straight after : Board) (a : Allowance) (found : List ℕ) (w v : ℕ) → ReadyAnswer (seen b) (Ok a) → Straightened (reach_of G s) (vec_items b.spots) a.p a.q b.pins (nodes_of b.seed) (edges_of b.seed) found w (rows_of straight.tree) → seen straight ≡ with_tree (seen b) (rows_of straight.tree) → Joins (reach_of G s) (join_of G J s) (rows_of straight.tree) found (rows_of after.tree) → v ≡ wire_of (rows_of after.tree) → seen after ≡ with_tree (seen straight) (rows_of after.tree) → JoinedAnswer (cut (joining G J s)) (seen b) (seen after) (Ok v)
+joined_told G J s b straight after a found w v r t e j k h =
+    let rows = rows_of after.tree in
+    (r.0, (r.1.0, (r.1.1.0, (a.p, a.q, rows, r.1.1.1, joined_tree (reach_of G s) (join_of G J s) b a.p a.q found w (rows_of straight.tree) rows t j, k, h ∙ ap (λ (n : State). with_tree n rows) e))))

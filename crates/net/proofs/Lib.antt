@@ -2,5 +2,6 @@ pub mod Boards
 pub mod Breaks
 pub mod Builds
 pub mod Moves
+pub mod Nets
 pub mod Owned
 pub mod Worsts

@@ -1,23 +1,25 @@
 -- A tree that stands, and what a share move makes of it. Assumes nothing.
-use Rattle.std.proofs.Common.{◌≡◌, ℕ, ◌+◌, ◌≤◌, true, List, length, Some, None, Ok, Option, sym, ap, ◌∙◌, arith}
+use Rattle.std.proofs.Common.{◌≡◌, ℕ, ◌+◌, ◌≤◌, Bool, true, is_ok, is_err, is_some, List, length, Some, None, Ok, Err, Option, Result, vec_items, sym, ap, ◌∙◌, arith}
 use Rattle.net_laws.specs.Answers.{ShareAnswer, Stands}
-use Rattle.net_laws.specs.States.{with_tree}
+use Rattle.net_laws.specs.States.{State}
 use Rattle.net_laws.specs.Worlds.{cut, joining}
+use Rattle.net_laws.specs.declared.fault.Fault.{Fault}
+use Rattle.seed.specs.Seeds.{edges_of}
 use Rattle.share.specs.Shares.{Saved, Shared, join_of, meet_of, shared_by}
 use Rattle.share.specs.declared.share.Share.{Share}
-use Rattle.share.specs.declared.sharing.Sharing.{Sharing}
-use Rattle.share.specs.declared.sharing.Sharing.TheVariants.{Nothing, Full, Saves}
+use Rattle.share.specs.declared.sharing.Unshared.{Unshared}
+use Rattle.share.specs.declared.sharing.Unshared.TheVariants.{Nothing, Full}
 use Rattle.space.specs.declared.Joining.{Ghosts as JoinGhosts}
 use Rattle.space.specs.declared.Space.{Ghosts}
 use Rattle.space.specs.declared.spot.Spot.{Spot}
-use Rattle.tree.specs.Hooks.{reach_of}
+use Rattle.tree.specs.Hooks.{Hooked, reach_of}
 use Rattle.tree.specs.Tables.{rows_of}
 use Rattle.tree.specs.declared.table.Table.{Table}
 use Rattle.tree_laws.specs.Trees.{add, hang, spot_of}
 use Rattle.tree_laws.specs.declared.Row.{Row}
 use Rattle.tree_laws.proofs.Adding.{add_length}
 use Rattle.tree_laws.proofs.Hanging.{hang_length}
-use Rattle.net.specs.Nets.{seen, standing}
+use Rattle.net.specs.Nets.{ratio_of, seen, standing}
 use Rattle.net.specs.declared.board.Board.{Board}
 
 pub not_none : (o : Option (List Row)) (rows : List Row) → o ≡ Some rows → o ≡ None → ⊥
@@ -29,6 +31,11 @@ only o rows other p q = cc
 pub stands : (b : Board) → true ≡ b.built → Stands (seen b) (rows_of b.tree)
 stands b e = ap (λ x. standing x (rows_of b.tree)) (sym e)
 
+pub hooked_same : {X : Type 0} (G : Ghosts X) (s : X) (t₀ : Table) (o : Option ℕ) (t : Table) → Hooked G s t₀ o t → (r : Result ℕ Fault) → is_ok r ≡ is_some o → is_err r ≡ true → t ≡ t₀
+hooked_same G s t₀ None t h r e f = h.2
+hooked_same G s t₀ (Some w) t h (Ok x) e f = let z : ◌≡◌ {A = ℕ} 0 1 = cc in absurd (omega arith)
+hooked_same G s t₀ (Some w) t h (Err x) e f = let z : ◌≡◌ {A = ℕ} 0 1 = cc in absurd (omega arith)
+
 pub shared_length : (rows : List Row) (d : Spot → Spot → ℕ) (j : Spot → Spot → Spot → Spot) (m : Share) → length (shared_by rows d j m) ≡ length rows + 1
 shared_length rows d j m =
     let z = meet_of rows j m in
@@ -36,22 +43,33 @@ shared_length rows d j m =
     let two = hang one m.a (length rows) (d z (spot_of rows m.a)) in
     hang_length two m.b (length rows) (d z (spot_of rows m.b)) ∙ hang_length one m.a (length rows) (d z (spot_of rows m.a)) ∙ add_length rows m.v z (d (spot_of rows m.v) z)
 
-pub shared_keeps : {X : Type 0} (G : Ghosts X) (J : JoinGhosts X) (s : X) (t₀ : Table) (r : Sharing) (t : Table) → Shared G J s t₀ r t → length (rows_of t₀) ≤ length (rows_of t)
-shared_keeps G J s t₀ Nothing t h = omega (arith, ap (λ (x : Table). length (rows_of x)) h.2)
-shared_keeps G J s t₀ Full t h = omega (arith, ap (λ (x : Table). length (rows_of x)) h.1)
-shared_keeps G J s t₀ (Saves w) t h = omega (arith, ap length h.shared, shared_length (rows_of t₀) (reach_of G s) (join_of G J s) h.move)
+pub shared_keeps : {X : Type 0} (G : Ghosts X) (J : JoinGhosts X) (s : X) (t₀ : Table) (r : Result ℕ Unshared) (t : Table) → Shared G J s t₀ r t → length (rows_of t₀) ≤ length (rows_of t)
+shared_keeps G J s t₀ (Err Nothing) t h = omega (arith, ap (λ (x : Table). length (rows_of x)) h.2)
+shared_keeps G J s t₀ (Err Full) t h = omega (arith, ap (λ (x : Table). length (rows_of x)) h.1)
+shared_keeps G J s t₀ (Ok w) t h = omega (arith, ap length h.shared, shared_length (rows_of t₀) (reach_of G s) (join_of G J s) h.move)
 
-pub share_saves : {X : Type 0} (G : Ghosts X) (J : JoinGhosts X) (s : X) (b after : Board) (w : ℕ) → true ≡ b.built → Saved G J s (rows_of b.tree) w (rows_of after.tree) → seen after ≡ with_tree (seen b) (rows_of after.tree) → ShareAnswer (cut (joining G J s)) (seen b) (seen after) (Ok w)
-share_saves G J s b after w up h e =
+-- the board with the table t in the place of its own
+abbrev with_table : Board → Table → State
+with_table b t = record { spots = vec_items b.spots; pins = b.pins; allowance = ratio_of b.allowance; edges = edges_of b.seed; tree = standing b.built (rows_of t) }
+
+pub share_saves : {X : Type 0} (G : Ghosts X) (J : JoinGhosts X) (s : X) (b : Board) (t : Table) (w : ℕ) → true ≡ b.built → Saved G J s (rows_of b.tree) w (rows_of t) → ShareAnswer (cut (joining G J s)) (seen b) (with_table b t) (Ok w)
+share_saves G J s b t w up h =
     let rows = rows_of b.tree in
     let st = stands b up in
-    let more : length (rows_of after.tree) ≡ length rows + 1 = ap length h.shared ∙ shared_length rows (reach_of G s) (join_of G J s) h.move in (
+    let after : Bool → State = λ x. record { spots = vec_items b.spots; pins = b.pins; allowance = ratio_of b.allowance; edges = edges_of b.seed; tree = standing x (rows_of t) } in
+    let more : length (rows_of t) ≡ length rows + 1 = ap length h.shared ∙ shared_length rows (reach_of G s) (join_of G J s) h.move in (
       λ none. not_none (seen b).tree rows st none,
       (
         (rows, st, (h.move, h.best.0)),
         (
-          λ other at. let same : rows ≡ other = only (seen b).tree rows other st at in omega (arith, ap length same, more, after.tree.few),
-          (rows, rows_of after.tree, st, record { move = h.move; best = h.best; saves = sym h.saving; shared = h.shared }, e),
+          λ other at. let same : rows ≡ other = only (seen b).tree rows other st at in omega (arith, ap length same, more, t.few),
+          (rows, rows_of t, st, record { move = h.move; best = h.best; saves = sym h.saving; shared = h.shared }, ap after (sym up)),
         ),
       ),
     )
+
+-- a share move that is refused leaves the table as it was
+pub refused_same : {X : Type 0} (G : Ghosts X) (J : JoinGhosts X) (s : X) (t₀ : Table) (r : Result ℕ Unshared) (t : Table) → Shared G J s t₀ r t → is_err r ≡ true → t ≡ t₀
+refused_same G J s t₀ (Err Nothing) t h e = h.2
+refused_same G J s t₀ (Err Full) t h e = h.1
+refused_same G J s t₀ (Ok w) t h e = let z : ◌≡◌ {A = ℕ} 0 1 = cc in absurd (omega arith)

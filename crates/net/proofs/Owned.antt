@@ -1,5 +1,5 @@
 -- On a net that is tied to its space each call answers by the space's own distances and meets, and leaves the net tied. Assumes nothing.
-use Rattle.std.proofs.Common.{◌≡◌, ℕ, ◌+◌, ◌≤◌, true, Ok, Err, Result, refl, arith}
+use Rattle.std.proofs.Common.{◌≡◌, ℕ, ◌+◌, ◌≤◌, Bool, true, is_err, Ok, Err, Result, refl, arith}
 use Rattle.space.specs.Laws.{Meets, Metric, limit}
 use Rattle.space.specs.declared.Joining.{Ghosts as JoinGhosts}
 use Rattle.space.specs.declared.Space.{Ghosts}
@@ -14,22 +14,26 @@ use Rattle.net_laws.specs.declared.fault.Fault.{Fault}
 use Rattle.net_laws.proofs.Owning.{own_edge, own_hook, own_joined, own_pin, own_share, own_span, own_straight}
 use Rattle.net_laws.proofs.Tying.{tied_step}
 
--- a wiring space keeps the laws: as its meet, which no call asks for, o itself will do
+-- where no call asks for a meet, o itself will do
+pub own_meets : (admits : Spot → Bool) (w : ℕ) (d : Spot → Spot → ℕ) → Metric admits w d → Meets admits d (λ o a b. o)
+own_meets admits w d law =
+    let none : (o a : Spot) → admits o ≡ true → d o o + d o a ≡ d o a = λ o a x. omega (arith, law.itself o x) in
+    record {
+      inside = λ o a b x y z. x;
+      first = λ o a b x y z. none o a x;
+      second = λ o a b x y z. none o b x;
+      level_0 = λ o a b x y z e f g. e;
+    }
+
 pub wiring_keeps : {X : Type 0} (G : Ghosts X) (s : X) → (G.width s ≤ limit → Metric (G.admitted s) (G.width s) (G.between s)) → Keeps (wiring G s)
-wiring_keeps G s law = record {
-  metric = law;
-  meets = λ h.
-      let none : (o a : Spot) → G.admitted s o ≡ true → G.between s o o + G.between s o a ≡ G.between s o a = λ o a x. omega (arith, (law h).itself o x) in
-      record {
-        inside = λ o a b x y z. x;
-        first = λ o a b x y z. none o a x;
-        second = λ o a b x y z. none o b x;
-        level_0 = λ o a b x y z e f g. e;
-      };
-}
+wiring_keeps G s law = record { metric = law; meets = λ h. own_meets (G.admitted s) (G.width s) (G.between s) (law h) }
 
 pub joining_keeps_lem : {X : Type 0} (G : Ghosts X) (J : JoinGhosts X) (s : X) → (G.width s ≤ limit → Metric (G.admitted s) (G.width s) (G.between s)) → (G.width s ≤ limit → Meets (G.admitted s) (G.between s) (J.meeting s)) → Keeps (joining G J s)
 joining_keeps_lem G J s law meets = record { metric = law; meets = meets }
+
+pub unchanged_by : {A : Type 0} (r : Result A Fault) (n m : State) → (is_err r ≡ true → m ≡ n) → Unchanged r n m
+unchanged_by (Ok a) n m f = tt
+unchanged_by (Err e) n m f = f refl
 
 module _ {X : Type 0} (G : Ghosts X) (s : X) (law : G.width s ≤ limit → Metric (G.admitted s) (G.width s) (G.between s)) (n m : State) where
   abbrev W : World

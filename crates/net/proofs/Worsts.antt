@@ -1,5 +1,6 @@
 -- The worst of the sinks so far, and by the space's own distances. Assumes nothing.
-use Rattle.std.proofs.Common.{◌≡◌, ℕ, ◌+◌, ◌*◌, ◌/◌, ◌<◌, ◌≤◌, max, Bool, true, false, List, length, Some, ap, ◌∙◌, ⊎_elim, arith}
+use Rattle.std.proofs.Common.{◌≡◌, ℕ, ◌+◌, ◌*◌, ◌/◌, ◌<◌, ◌≤◌, max, Bool, true, false, List, length, Option, ap, ◌∙◌, ⊎_elim, arith}
+use Rattle.std.specs.Option.{unwrap_or}
 use Rattle.std.proofs.lemmas.Bool.{and_from, cases_eq}
 use Rattle.net_laws.specs.Readings.{WorstOf, direct_distance, figure_of}
 use Rattle.net_laws.specs.States.{State}
@@ -36,9 +37,9 @@ module _ (f : ℕ → ℕ) (k p w x : ℕ) (l : Leads f k p w) (e : x ≡ f k) w
     l.4,
   )
 
-pub answered_some : {X : Type 0} (b : Bool) (x y : X) → Some y ≡ answered b x → y ≡ x
-answered_some true x y e = cc
-answered_some false x y e = let z : ◌≡◌ {A = ℕ} 0 1 = cc in absurd (omega arith)
+pub answered_or : (b : Bool) (x : ℕ) (o : Option ℕ) → o ≡ answered b x → unwrap_or o 0 ≤ x
+answered_or true x o e = omega (arith, ap (λ z. unwrap_or z 0) e)
+answered_or false x o e = omega (arith, ap (λ z. unwrap_or z 0) e)
 
 module _ {X : Type 0} (G : Ghosts X) (s : X) (n : State) (law : G.width s ≤ limit → Metric (G.admitted s) (G.width s) (G.between s)) (h : Whole G s n) where
   direct_own : (k : ℕ) → 0 < k → k < n.pins → direct_distance (length_of G s) n k ≡ direct_distance (G.between s) n k

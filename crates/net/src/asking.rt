@@ -14,33 +14,24 @@ use tree::{LONGEST, reach};
 pub(crate) fn fits<S: Space>(space: &S) -> Result<(), SpaceFault>
     ensures { Checked (S.Space.width space.now ≤ limit) TooWide result }
 {
-    if space.widest() <= LONGEST {
-        Ok(())
-    } else {
-        Err(SpaceFault::TooWide)
-    }
+    (space.widest() <= LONGEST)
+        .then_some(())
+        .ok_or(SpaceFault::TooWide)
 }
 
 /// Whether the space admits the spot.
 pub(crate) fn admitted<S: Space>(space: &S, spot: Spot) -> Result<(), SpaceFault>
     ensures { Checked (S.Space.admitted space.now spot ≡ true) NotAdmitted result }
 {
-    if space.admits(spot) {
-        Ok(())
-    } else {
-        Err(SpaceFault::NotAdmitted)
-    }
+    space
+        .admits(spot)
+        .then_some(())
+        .ok_or(SpaceFault::NotAdmitted)
 }
 
-/// Whether each of the first `pins` spots is at least 1 away from `spot`.
-pub(crate) fn apart<S: Space>(space: &S, spots: &[Spot], pins: usize, spot: Spot) -> bool
-    requires { pins ≤ length spots.now }
-    ensures { Decides result ((k : ℕ) → k < pins → 1 ≤ reach_of S.Space space.now (spot_of spots.now k) spot) }
+/// Whether each of the pins is at least 1 away from `spot`.
+pub(crate) fn apart<S: Space>(space: &S, pins: &[Spot], spot: Spot) -> bool
+    ensures { Decides result ((k : ℕ) → k < length pins.now → 1 ≤ reach_of S.Space space.now (spot_of pins.now k) spot) }
 {
-    for k in 0..pins {
-        if reach(space, spots[k], spot) == 0 {
-            return false;
-        }
-    }
-    true
+    pins.iter().all(|pin| reach(space, *pin, spot) != 0)
 }

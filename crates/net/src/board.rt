@@ -11,6 +11,9 @@ mod building;
 mod changing;
 mod growing;
 mod moving;
+mod standing;
+
+pub(crate) use standing::Built;
 
 /// The most pins that a net can have.
 pub(crate) const PINS: usize = 256;
@@ -23,9 +26,11 @@ pub(crate) const POINTS: usize = 256;
 #[derive(Drop)]
 pub struct Board {
     spots: Vec<Spot>,
+    // Kept: the builders take all nodes as one slice, pins first, so the number says where the pins end.
     pins: usize,
     allowance: Option<Allowance>,
     seed: Seed,
+    // Kept: an `Option` would give the memory of the tree back where none stands, and all memory is reserved when a net is made.
     built: bool,
     tree: tree::Table,
     ghost room: { 512 ≤ vec_capacity spots },

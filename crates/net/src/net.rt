@@ -5,7 +5,6 @@ ghost use Rattle.net.specs.Nets.{seen};
 
 use crate::board::Board;
 use joined::Joiner;
-use share::Sharer;
 use space::Space;
 use span::Spanner;
 use std::alloc::{AllocError, Global};
@@ -23,30 +22,28 @@ mod seeding;
 struct Work {
     spanner: Spanner,
     refiner: Refiner,
-    sharer: Sharer,
     builder: Builder,
     joiner: Joiner,
 }
 
-/// A net in a wiring space. All memory is reserved when it is made; no call takes more.
+/// A net in a wiring space, to which it is tied. All memory is reserved when it is made; no call takes more.
 #[derive(Drop)]
-pub struct Net<S> {
+pub struct Net<S: Space> {
     space: S,
     board: Board,
     work: Work,
+    ghost whole: { Whole S.Space space (seen board) },
 }
 
 impl Work {
     fn new(heap: Global) -> Result<Work, AllocError> {
         let spanner = Spanner::new(heap)?;
         let refiner = Refiner::new(heap)?;
-        let sharer = Sharer::new(heap)?;
         let builder = Builder::new(heap)?;
         let joiner = Joiner::new(heap)?;
         Ok(Work {
             spanner,
             refiner,
-            sharer,
             builder,
             joiner,
         })
@@ -54,9 +51,9 @@ impl Work {
 }
 
 impl<S: Space + Drop> Net<S> {
-    /// A net without nodes in the space; it is tied to the space, whichever it is.
+    /// A net without nodes in the space.
     pub fn new(heap: Global, space: S) -> Result<Net<S>, AllocError>
-        ensures { IfOk result (λ n. (seen n.board ≡ fresh) × (n.space ≡ space) × Whole S.Space space (seen n.board)) }
+        ensures { IfOk result (λ n. (seen n.board ≡ fresh) × (n.space ≡ space)) }
     {
         let board = Board::new(heap)?;
         let work = Work::new(heap)?;

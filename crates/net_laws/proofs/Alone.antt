@@ -11,7 +11,7 @@ use Rattle.share.specs.Moves.{share_order}
 use Rattle.space.specs.declared.spot.Spot.{Spot}
 use Rattle.span.proofs.Steps.{spanning_only}
 use Rattle.span.specs.Lengths.{spot_of as spot_at}
-use Rattle.tree.specs.Bests.{BestOf}
+use Rattle.order.specs.Bests.{BestOf}
 use Rattle.tree.specs.Moves.{hook_order}
 use Rattle.tree_laws.specs.Trees.{hang, spot_of}
 use Rattle.tree_laws.specs.declared.Row.{Row}

@@ -12,7 +12,7 @@ use Rattle.space.specs.Laws.{limit}
 use Rattle.space.specs.declared.spot.Spot.{Spot}
 use Rattle.span.specs.Lengths.{spot_of as spot_at}
 use Rattle.span.specs.Spanning.{Spanning}
-use Rattle.tree.specs.Bests.{BestOf}
+use Rattle.order.specs.Bests.{BestOf}
 use Rattle.tree.specs.Hooks.{HookMove, hook_before}
 use Rattle.tree.specs.declared.hook.Hook.{Hook}
 use Rattle.tree_laws.specs.Trees.{hang, spot_of, wire_of}

@@ -1,7 +1,7 @@
 use space::Spot;
 
 /// A call that changes a net over any wiring space.
-#[derive(Clone, Copy)]
+#[derive(Clone, Copy, Debug, PartialEq, Eq)]
 pub enum Call {
     Pin(Spot),
     Allow(u64, u64),
@@ -14,7 +14,7 @@ pub enum Call {
 }
 
 /// A call that changes a net over a joining space.
-#[derive(Clone, Copy)]
+#[derive(Clone, Copy, Debug, PartialEq, Eq)]
 pub enum JoinCall {
     Wire(Call),
     Joined,

@@ -1,9 +1,12 @@
 ghost use Rattle.std.specs.Prelude.{◌≡◌};
-ghost use Rattle.net_laws.specs.Faults.{layer_of, number_of};
+ghost use Rattle.net_laws.specs.Faults.{layer_of, number_of, unshared};
 ghost use Rattle.net_laws.specs.declared.fault.Fault.TheVariants.{Space as carried};
 
+use share::Unshared;
+use std::fmt;
+
 /// A refusal of the space.
-#[derive(Clone, Copy)]
+#[derive(Clone, Copy, Debug, PartialEq, Eq)]
 pub enum SpaceFault {
     /// 1: the space is more than 100,000,000 wide.
     TooWide,
@@ -12,7 +15,7 @@ pub enum SpaceFault {
 }
 
 /// A refusal of the net, or one of its space carried on whole.
-#[derive(Clone, Copy)]
+#[derive(Clone, Copy, Debug, PartialEq, Eq)]
 pub enum Fault {
     /// 1 or 2.
     Space(SpaceFault),
@@ -47,7 +50,7 @@ pub enum Fault {
 }
 
 /// Who refuses.
-#[derive(Clone, Copy)]
+#[derive(Clone, Copy, Debug, PartialEq, Eq)]
 pub enum Layer {
     Space,
     Net,
@@ -58,6 +61,17 @@ impl From<SpaceFault> for Fault {
 
     fn from(fault: SpaceFault) -> Fault {
         Fault::Space(fault)
+    }
+}
+
+impl From<Unshared> for Fault {
+    ghost from_gives = { λ e r. r ≡ unshared e };
+
+    fn from(refusal: Unshared) -> Fault {
+        match refusal {
+            Unshared::Nothing => Fault::NoMove,
+            Unshared::Full => Fault::TooManyRows,
+        }
     }
 }
 
@@ -73,6 +87,7 @@ impl Fault {
     }
 
     /// The number of the refusal, from 1 to 16.
+    // Kept: users ask for the number beside the words, and `as u8` does not give it, since one variant carries a refusal of the space.
     pub fn number(self) -> u8
         ensures { result ≡ number_of self }
     {
@@ -93,6 +108,38 @@ impl Fault {
             Fault::NoMove => 14,
             Fault::TooManyRows => 15,
             Fault::OutOfRange => 16,
+        }
+    }
+}
+
+impl fmt::Display for SpaceFault {
+    fn fmt<W: fmt::Write>(&self, f: &mut fmt::Formatter<W>) -> fmt::Result {
+        match self {
+            SpaceFault::TooWide => write!(f, "the space is too wide"),
+            SpaceFault::NotAdmitted => write!(f, "the spot is not admitted"),
+        }
+    }
+}
+
+/// The refusal in words.
+impl fmt::Display for Fault {
+    fn fmt<W: fmt::Write>(&self, f: &mut fmt::Formatter<W>) -> fmt::Result {
+        match self {
+            Fault::Space(fault) => write!(f, "{fault}"),
+            Fault::TooManyPins => write!(f, "there are 256 pins"),
+            Fault::TooClose => write!(f, "an earlier pin is less than 1 away"),
+            Fault::BadAllowance => write!(f, "the allowance is out of range"),
+            Fault::TooFewPins => write!(f, "there are fewer than two pins"),
+            Fault::TooManyPoints => write!(f, "there are 256 Steiner points"),
+            Fault::NoNode => write!(f, "there is no such node"),
+            Fault::Joined => write!(f, "the nodes are joined already"),
+            Fault::NoLength => write!(f, "the nodes are less than 1 apart"),
+            Fault::NoAllowance => write!(f, "no allowance is set"),
+            Fault::NoSeed => write!(f, "the edges are not one fewer than the nodes"),
+            Fault::NoTree => write!(f, "there is no tree"),
+            Fault::NoMove => write!(f, "no move saves wire"),
+            Fault::TooManyRows => write!(f, "there are 768 rows"),
+            Fault::OutOfRange => write!(f, "there is no such row or pin"),
         }
     }
 }

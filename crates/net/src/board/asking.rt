@@ -1,11 +1,15 @@
-ghost use Rattle.std.specs.Prelude.{◌≡◌, ◌<◌, length, Decides};
+ghost use Rattle.std.specs.Prelude.{◌≡◌, ◌<◌, ℕ, ◌≤◌, length, Decides};
 ghost use Rattle.forest.specs.Edges.{Joined};
+ghost use Rattle.net.specs.Nets.{Checked};
+ghost use Rattle.net_laws.specs.declared.fault.Fault.TheVariants.{TooFewPins};
 ghost use Rattle.seed.specs.Seeds.{edges_of};
 ghost use Rattle.span.specs.Lengths.{spot_of};
+ghost use Rattle.tree.specs.Hooks.{reach_of};
 
 use super::Board;
-use space::Spot;
-use tree::Table;
+use crate::asking::apart;
+use net_laws::Fault;
+use space::{Space, Spot};
 
 impl Board {
     /// How many pins there are.
@@ -22,11 +26,18 @@ impl Board {
         self.spots.len()
     }
 
-    /// The spots of the nodes.
-    pub(crate) fn spots(&self) -> &[Spot]
-        ensures { result.now ≡ self.now.spots.items }
+    /// Whether each pin is at least 1 away from `spot`.
+    pub(crate) fn apart<S: Space>(&self, space: &S, spot: Spot) -> bool
+        ensures { Decides result ((k : ℕ) → k < self.now.pins → 1 ≤ reach_of S.Space space.now (spot_of self.now.spots.items k) spot) }
     {
-        self.spots.as_slice()
+        apart(space, &self.spots[..self.pins], spot)
+    }
+
+    /// Refuses where there are fewer than two pins.
+    pub(crate) fn paired(&self) -> Result<(), Fault>
+        ensures { Checked (2 ≤ self.now.pins) TooFewPins result }
+    {
+        (self.pins >= 2).then_some(()).ok_or(Fault::TooFewPins)
     }
 
     /// The spot of the node `k`.
@@ -44,19 +55,5 @@ impl Board {
         ensures { Decides result (Joined (edges_of self.now.seed) a b) }
     {
         self.seed.joined(a, b)
-    }
-
-    /// Whether a tree stands.
-    pub(crate) fn built(&self) -> bool
-        ensures { result ≡ self.now.built }
-    {
-        self.built
-    }
-
-    /// The tree, where one stands.
-    pub(crate) fn tree(&self) -> &Table
-        ensures { result.now ≡ self.now.tree }
-    {
-        &self.tree
     }
 }

@@ -22,12 +22,8 @@ impl Board {
     pub(crate) fn ready(&self) -> Result<Allowance, Fault>
         ensures { ReadyAnswer (seen self.now) result }
     {
-        if self.pins < 2 {
-            return Err(Fault::TooFewPins);
-        }
-        let Some(allowance) = self.allowance else {
-            return Err(Fault::NoAllowance);
-        };
+        self.paired()?;
+        let allowance = self.allowance.ok_or(Fault::NoAllowance)?;
         if !self.seed.tree() {
             return Err(Fault::NoSeed);
         }
@@ -47,20 +43,17 @@ impl Board {
         ensures stands { self.new.built ≡ true }
         ensures seen { seen self.new ≡ with_tree (seen self.old) (rows_of self.new.tree) }
     {
-        self.built = false;
         let spots = self.spots.as_slice();
-        let Some(wire) = builder.straight(
+        let wire = builder.straight(
             space,
             spots,
             self.pins,
             allowance,
             &self.seed,
             &mut self.tree,
-        ) else {
-            return 0;
-        };
+        );
         self.built = true;
-        wire
+        wire.unwrap_or(0)
     }
 
     /// Joins rows on the driver, pair after pair, and answers the wire of the tree.
@@ -76,9 +69,6 @@ impl Board {
         ensures wire { result ≡ wire_of (rows_of self.new.tree) }
         ensures seen { seen self.new ≡ with_tree (seen self.old) (rows_of self.new.tree) }
     {
-        match joiner.join(space, &mut self.tree, members) {
-            Some(wire) => wire,
-            None => 0,
-        }
+        joiner.join(space, &mut self.tree, members).unwrap_or(0)
     }
 }

@@ -18,12 +18,7 @@ impl Board {
     {
         let spots = Vec::with_capacity(heap, PINS + POINTS)?;
         let seed = Seed::new(heap)?;
-        let origin = Spot {
-            x: 0,
-            y: 0,
-            level: 0,
-        };
-        let tree = Table::new(heap, origin)?;
+        let tree = Table::new(heap, Spot::default())?;
         Ok(Board {
             spots,
             pins: 0,

@@ -19,9 +19,8 @@ impl Board {
         ensures grown { seen self.new ≡ with_seed (seen self.old) (edges_of self.new.seed) }
     {
         self.drop_seed();
-        match spanner.grow(space, self.spots.as_slice(), &mut self.seed) {
-            Ok(wire) => wire,
-            Err(_) => 0,
-        }
+        spanner
+            .grow(space, self.spots.as_slice(), &mut self.seed)
+            .unwrap_or(0)
     }
 }

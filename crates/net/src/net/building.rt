@@ -1,7 +1,7 @@
 ghost use Rattle.std.specs.Prelude.{◌≡◌, true, is_ok, is_err};
 ghost use Rattle.net_laws.specs.Answers.{Answers, JoinAnswers, JoinedAnswer, StraightAnswer};
 ghost use Rattle.net_laws.specs.Builds.{Bounds, EdgeForEdge, NoMoreThanStraight};
-ghost use Rattle.net_laws.specs.Worlds.{Whole, cut, joining, wiring};
+ghost use Rattle.net_laws.specs.Worlds.{cut, joining, wiring};
 ghost use Rattle.net_laws.specs.declared.call.Call.TheVariants.{Straight as StraightCall};
 ghost use Rattle.net_laws.specs.declared.call.JoinCall.TheVariants.{Joined as JoinedCall};
 ghost use Rattle.net.specs.Nets.{seen};
@@ -15,9 +15,9 @@ impl<S: Space> Net<S> {
     pub fn straight(&mut self) -> Result<u64, Fault>
         ensures always { StraightAnswer (cut (wiring S.Space self.old.space)) (seen self.old.board) (seen self.new.board) result }
         ensures unchanged { is_err result ≡ true → self.new ≡ self.old }
-        ensures answer { Whole S.Space self.old.space (seen self.old.board) → Answers (wiring S.Space self.old.space) (seen self.old.board) (seen self.new.board) StraightCall result × Whole S.Space self.old.space (seen self.new.board) }
-        ensures bounds { Whole S.Space self.old.space (seen self.old.board) → is_ok result ≡ true → Bounds (wiring S.Space self.old.space) (seen self.old.board) (seen self.new.board) }
-        ensures spared { Whole S.Space self.old.space (seen self.old.board) → is_ok result ≡ true → EdgeForEdge (wiring S.Space self.old.space) (seen self.old.board) (seen self.new.board) }
+        ensures answer { Answers (wiring S.Space self.old.space) (seen self.old.board) (seen self.new.board) StraightCall result }
+        ensures bounds { is_ok result ≡ true → Bounds (wiring S.Space self.old.space) (seen self.old.board) (seen self.new.board) }
+        ensures spared { is_ok result ≡ true → EdgeForEdge (wiring S.Space self.old.space) (seen self.old.board) (seen self.new.board) }
         ensures stays { self.new.space ≡ self.old.space }
     {
         let allowance = self.board.ready()?;
@@ -31,10 +31,10 @@ impl<S: Joining> Net<S> {
     pub fn joined(&mut self) -> Result<u64, Fault>
         ensures always { JoinedAnswer (cut (joining S.Space S.Joining.own self.old.space)) (seen self.old.board) (seen self.new.board) result }
         ensures unchanged { is_err result ≡ true → self.new ≡ self.old }
-        ensures answer { Whole S.Space self.old.space (seen self.old.board) → JoinAnswers (joining S.Space S.Joining.own self.old.space) (seen self.old.board) (seen self.new.board) JoinedCall result × Whole S.Space self.old.space (seen self.new.board) }
-        ensures bounds { Whole S.Space self.old.space (seen self.old.board) → is_ok result ≡ true → Bounds (joining S.Space S.Joining.own self.old.space) (seen self.old.board) (seen self.new.board) }
-        ensures spared { Whole S.Space self.old.space (seen self.old.board) → is_ok result ≡ true → EdgeForEdge (joining S.Space S.Joining.own self.old.space) (seen self.old.board) (seen self.new.board) }
-        ensures shorter { Whole S.Space self.old.space (seen self.old.board) → is_ok result ≡ true → NoMoreThanStraight (joining S.Space S.Joining.own self.old.space) (seen self.old.board) (seen self.new.board) }
+        ensures answer { JoinAnswers (joining S.Space S.Joining.own self.old.space) (seen self.old.board) (seen self.new.board) JoinedCall result }
+        ensures bounds { is_ok result ≡ true → Bounds (joining S.Space S.Joining.own self.old.space) (seen self.old.board) (seen self.new.board) }
+        ensures spared { is_ok result ≡ true → EdgeForEdge (joining S.Space S.Joining.own self.old.space) (seen self.old.board) (seen self.new.board) }
+        ensures shorter { is_ok result ≡ true → NoMoreThanStraight (joining S.Space S.Joining.own self.old.space) (seen self.old.board) (seen self.new.board) }
         ensures stays { self.new.space ≡ self.old.space }
     {
         let allowance = self.board.ready()?;

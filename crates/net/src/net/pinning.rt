@@ -1,11 +1,11 @@
 ghost use Rattle.std.specs.Prelude.{◌≡◌, true, is_err};
 ghost use Rattle.net_laws.specs.Answers.{AllowAnswer, Answers, PinAnswer};
 ghost use Rattle.net_laws.specs.declared.call.Call.TheVariants.{Pin as PinCall};
-ghost use Rattle.net_laws.specs.Worlds.{Whole, cut, wiring};
+ghost use Rattle.net_laws.specs.Worlds.{cut, wiring};
 ghost use Rattle.net.specs.Nets.{seen};
 
 use super::Net;
-use crate::asking::{admitted, apart, fits};
+use crate::asking::{admitted, fits};
 use crate::board::PINS;
 use net_laws::Fault;
 use space::{Space, Spot};
@@ -16,7 +16,7 @@ impl<S: Space> Net<S> {
     pub fn pin(&mut self, spot: Spot) -> Result<usize, Fault>
         ensures always { PinAnswer (cut (wiring S.Space self.old.space)) (seen self.old.board) (seen self.new.board) spot result }
         ensures unchanged { is_err result ≡ true → self.new ≡ self.old }
-        ensures answer { Whole S.Space self.old.space (seen self.old.board) → Answers (wiring S.Space self.old.space) (seen self.old.board) (seen self.new.board) (PinCall spot) result × Whole S.Space self.old.space (seen self.new.board) }
+        ensures answer { Answers (wiring S.Space self.old.space) (seen self.old.board) (seen self.new.board) (PinCall spot) result }
         ensures stays { self.new.space ≡ self.old.space }
     {
         fits(&self.space)?;
@@ -24,7 +24,7 @@ impl<S: Space> Net<S> {
         if self.board.pins() >= PINS {
             return Err(Fault::TooManyPins);
         }
-        if !apart(&self.space, self.board.spots(), self.board.pins(), spot) {
+        if !self.board.apart(&self.space, spot) {
             return Err(Fault::TooClose);
         }
         Ok(self.board.add_pin(spot))
@@ -34,12 +34,10 @@ impl<S: Space> Net<S> {
     pub fn allow(&mut self, p: u64, q: u64) -> Result<(), Fault>
         ensures always { AllowAnswer (cut (wiring S.Space self.old.space)) (seen self.old.board) (seen self.new.board) p q result }
         ensures unchanged { is_err result ≡ true → self.new ≡ self.old }
-        ensures answer { Whole S.Space self.old.space (seen self.old.board) → AllowAnswer (wiring S.Space self.old.space) (seen self.old.board) (seen self.new.board) p q result × Whole S.Space self.old.space (seen self.new.board) }
+        ensures answer { AllowAnswer (wiring S.Space self.old.space) (seen self.old.board) (seen self.new.board) p q result }
         ensures stays { self.new.space ≡ self.old.space }
     {
-        let Some(allowance) = Allowance::new(p, q) else {
-            return Err(Fault::BadAllowance);
-        };
+        let allowance = Allowance::new(p, q).ok_or(Fault::BadAllowance)?;
         self.board.set_allowance(allowance);
         Ok(())
     }

@@ -3,12 +3,11 @@ ghost use Rattle.net_laws.specs.declared.fault.Fault.TheVariants.{NoTree};
 ghost use Rattle.net_laws.specs.Answers.{Answers, HookAnswer, JoinAnswers, ShareAnswer};
 ghost use Rattle.net_laws.specs.declared.call.Call.TheVariants.{Hook as HookCall};
 ghost use Rattle.net_laws.specs.declared.call.JoinCall.TheVariants.{Share as ShareCall};
-ghost use Rattle.net_laws.specs.Worlds.{Whole, cut, joining, wiring};
+ghost use Rattle.net_laws.specs.Worlds.{cut, joining, wiring};
 ghost use Rattle.net.specs.Nets.{seen};
 
 use super::Net;
 use net_laws::Fault;
-use share::Sharing;
 use space::{Joining, Space};
 
 impl<S: Space> Net<S> {
@@ -17,16 +16,10 @@ impl<S: Space> Net<S> {
         ensures always { HookAnswer (cut (wiring S.Space self.old.space)) (seen self.old.board) (seen self.new.board) result }
         ensures unchanged { is_err result ≡ true → self.new.board ≡ self.old.board }
         ensures untouched { result ≡ Err NoTree → self.new ≡ self.old }
-        ensures answer { Whole S.Space self.old.space (seen self.old.board) → Answers (wiring S.Space self.old.space) (seen self.old.board) (seen self.new.board) HookCall result × Whole S.Space self.old.space (seen self.new.board) }
+        ensures answer { Answers (wiring S.Space self.old.space) (seen self.old.board) (seen self.new.board) HookCall result }
         ensures stays { self.new.space ≡ self.old.space }
     {
-        if !self.board.built() {
-            return Err(Fault::NoTree);
-        }
-        match self.board.hook(&self.space, &mut self.work.refiner) {
-            Some(saving) => Ok(saving),
-            None => Err(Fault::NoMove),
-        }
+        self.board.hook(&self.space, &mut self.work.refiner)
     }
 }
 
@@ -34,18 +27,10 @@ impl<S: Joining> Net<S> {
     /// Makes the best share move of the tree and answers what it saves.
     pub fn share(&mut self) -> Result<u64, Fault>
         ensures always { ShareAnswer (cut (joining S.Space S.Joining.own self.old.space)) (seen self.old.board) (seen self.new.board) result }
-        ensures unchanged { is_err result ≡ true → self.new.board ≡ self.old.board }
-        ensures untouched { result ≡ Err NoTree → self.new ≡ self.old }
-        ensures answer { Whole S.Space self.old.space (seen self.old.board) → JoinAnswers (joining S.Space S.Joining.own self.old.space) (seen self.old.board) (seen self.new.board) ShareCall result × Whole S.Space self.old.space (seen self.new.board) }
+        ensures unchanged { is_err result ≡ true → self.new ≡ self.old }
+        ensures answer { JoinAnswers (joining S.Space S.Joining.own self.old.space) (seen self.old.board) (seen self.new.board) ShareCall result }
         ensures stays { self.new.space ≡ self.old.space }
     {
-        if !self.board.built() {
-            return Err(Fault::NoTree);
-        }
-        match self.board.share(&self.space, &mut self.work.sharer) {
-            Sharing::Nothing => Err(Fault::NoMove),
-            Sharing::Full => Err(Fault::TooManyRows),
-            Sharing::Saves(saving) => Ok(saving),
-        }
+        self.board.share(&self.space)
     }
 }

@@ -18,12 +18,10 @@ impl<S: Space> Net<S> {
     pub fn steiner(&mut self, spot: Spot) -> Result<usize, Fault>
         ensures always { SteinerAnswer (cut (wiring S.Space self.old.space)) (seen self.old.board) (seen self.new.board) spot result }
         ensures unchanged { is_err result ≡ true → self.new ≡ self.old }
-        ensures answer { Whole S.Space self.old.space (seen self.old.board) → Answers (wiring S.Space self.old.space) (seen self.old.board) (seen self.new.board) (SteinerCall spot) result × Whole S.Space self.old.space (seen self.new.board) }
+        ensures answer { Answers (wiring S.Space self.old.space) (seen self.old.board) (seen self.new.board) (SteinerCall spot) result }
         ensures stays { self.new.space ≡ self.old.space }
     {
-        if self.board.pins() < 2 {
-            return Err(Fault::TooFewPins);
-        }
+        self.board.paired()?;
         admitted(&self.space, spot)?;
         if self.board.nodes() >= self.board.pins() + POINTS {
             return Err(Fault::TooManyPoints);
@@ -35,12 +33,10 @@ impl<S: Space> Net<S> {
     pub fn edge(&mut self, a: usize, b: usize) -> Result<u64, Fault>
         ensures always { EdgeAnswer (cut (wiring S.Space self.old.space)) (seen self.old.board) (seen self.new.board) a b result }
         ensures unchanged { is_err result ≡ true → self.new ≡ self.old }
-        ensures answer { Whole S.Space self.old.space (seen self.old.board) → Answers (wiring S.Space self.old.space) (seen self.old.board) (seen self.new.board) (EdgeCall a b) result × Whole S.Space self.old.space (seen self.new.board) }
+        ensures answer { Answers (wiring S.Space self.old.space) (seen self.old.board) (seen self.new.board) (EdgeCall a b) result }
         ensures stays { self.new.space ≡ self.old.space }
     {
-        if self.board.pins() < 2 {
-            return Err(Fault::TooFewPins);
-        }
+        self.board.paired()?;
         let nodes = self.board.nodes();
         if a >= nodes || b >= nodes {
             return Err(Fault::NoNode);
@@ -59,7 +55,7 @@ impl<S: Space> Net<S> {
     /// Drops the Steiner points, the edges and the tree.
     pub fn unseed(&mut self)
         ensures always { seen self.new.board ≡ unseeded (seen self.old.board) }
-        ensures whole { Whole S.Space self.old.space (seen self.old.board) → Whole S.Space self.old.space (seen self.new.board) }
+        ensures whole { Whole S.Space self.old.space (seen self.new.board) }
         ensures stays { self.new.space ≡ self.old.space }
     {
         self.board.drop_seed();
@@ -69,12 +65,10 @@ impl<S: Space> Net<S> {
     pub fn span(&mut self) -> Result<u64, Fault>
         ensures always { SpanBy (cut (wiring S.Space self.old.space)) (seen self.old.board) (seen self.new.board) (length_of S.Space self.old.space) result }
         ensures unchanged { is_err result ≡ true → self.new ≡ self.old }
-        ensures answer { Whole S.Space self.old.space (seen self.old.board) → Answers (wiring S.Space self.old.space) (seen self.old.board) (seen self.new.board) SpanCall result × Whole S.Space self.old.space (seen self.new.board) }
+        ensures answer { Answers (wiring S.Space self.old.space) (seen self.old.board) (seen self.new.board) SpanCall result }
         ensures stays { self.new.space ≡ self.old.space }
     {
-        if self.board.pins() < 2 {
-            return Err(Fault::TooFewPins);
-        }
+        self.board.paired()?;
         Ok(self.board.span(&self.space, &mut self.work.spanner))
     }
 }

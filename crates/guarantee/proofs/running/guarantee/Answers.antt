@@ -1,9 +1,9 @@
-use Rattle.std.proofs.Common.{take, subst}
+use Rattle.std.proofs.Common.{List, take, subst}
+use Rattle.std.proofs.lemmas.List.{map-id}
 use Rattle.net.specs.Nets.{seen}
-use Rattle.net.proofs.Owned.{joining_keeps_lem, wiring_keeps}
 use Rattle.net_laws.specs.States.{State}
-use Rattle.net_laws.specs.Worlds.{Whole, joining, wiring}
-use Rattle.net_laws.proofs.Keeping.{fresh_tied}
+use Rattle.net_laws.specs.Worlds.{joining, wiring}
+use Rattle.net_laws.specs.declared.call.JoinCall.{JoinCall}
 use Rattle.guarantee.specs.Kept.{Kept, wired}
 use Rattle.guarantee.proofs.running.guarantee.Goals as goal
 
@@ -11,17 +11,16 @@ pub returns : goal.returns
 returns g c =
     let s = c.args.wiring.now.space in
     let z = c.args.joining.now.space in
+    let first = c.run-first in
+    let second = c.run-second in
+    let C : List JoinCall → Type 0 = λ cs. Kept (joining g.J.Space g.J.Joining z) (seen c.args.joining.now.board) cs (take second.result second.new.answers) (seen second.new.net.board) in
+    let P : State → Type 0 = λ n. Kept (wiring g.W.Space s) n (wired (take first.result c.args.calls.now)) (take first.result first.new.answers) (seen first.new.net.board) in
+    let Q : State → Type 0 = λ n. Kept (joining g.J.Space g.J.Joining z) n (take second.result c.args.joining_calls.now) (take second.result second.new.answers) (seen second.new.net.board) in
     record {
-      wiring_count = c.run-first.ensures.count;
-      wiring = λ e.
-          let w = fresh_tied (wiring g.W.Space s) (wiring_keeps g.W.Space s (g.met.W.Space.metric s)) in
-          let P : State → Type 0 = λ n. Whole g.W.Space s n → Kept (wiring g.W.Space s) n (wired (take c.run-first.result c.args.calls.now)) (take c.run-first.result c.run-first.new.answers) (seen c.run-first.new.net.board) × Whole g.W.Space s (seen c.run-first.new.net.board) in
-          (subst P e c.run-first.ensures.kept w).0;
-      wiring_stays = c.run-first.ensures.stays;
-      joining_count = c.run_joining-second.ensures.count;
-      joining = λ e.
-          let w = fresh_tied (joining g.J.Space g.J.Joining z) (joining_keeps_lem g.J.Space g.J.Joining z (g.met.J.Space.metric z) (g.met.J.Joining.meets z)) in
-          let P : State → Type 0 = λ n. Whole g.J.Space z n → Kept (joining g.J.Space g.J.Joining z) n (take c.run_joining-second.result c.args.joining_calls.now) (take c.run_joining-second.result c.run_joining-second.new.answers) (seen c.run_joining-second.new.net.board) × Whole g.J.Space z (seen c.run_joining-second.new.net.board) in
-          (subst P e c.run_joining-second.ensures.kept w).0;
-      joining_stays = c.run_joining-second.ensures.stays;
+      wiring_count = first.ensures.count;
+      wiring = λ e. subst P e first.ensures.kept;
+      wiring_stays = first.ensures.stays;
+      joining_count = second.ensures.count;
+      joining = λ e. subst Q e (subst C (map-id (take second.result c.args.joining_calls.now)) second.ensures.kept);
+      joining_stays = second.ensures.stays;
     }

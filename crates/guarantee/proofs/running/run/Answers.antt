@@ -1,63 +1,41 @@
-use Rattle.std.proofs.Common.{◌≡◌, ℕ, ◌+◌, ◌<◌, List, [], ◌∷◌, ◌++◌, length, get_or, take, set, pos, Result, sym, refl, ◌∙◌, subst, arith}
+use Rattle.std.proofs.Common.{◌≡◌, ℕ, ◌+◌, ◌<◌, List, [], ◌∷◌, ◌++◌, length, get_or, map, take, set, Result, sym, refl, ap, ◌∙◌, subst, arith, length-take, get_or-take}
 use Rattle.std.proofs.lemmas.List.{map_more, take_more_set}
 use Rattle.net.specs.Nets.{seen}
-use Rattle.net.proofs.Owned.{wiring_keeps}
-use Rattle.net_laws.specs.Answers.{Answers}
-use Rattle.net_laws.specs.Worlds.{Whole, wiring}
-use Rattle.net_laws.specs.declared.call.Call.{Call}
-use Rattle.net_laws.specs.declared.call.Call.TheVariants.{Pin}
+use Rattle.net_laws.specs.Answers.{JoinAnswers}
 use Rattle.net_laws.specs.declared.call.JoinCall.{JoinCall}
-use Rattle.net_laws.specs.declared.call.JoinCall.TheVariants.{Wire}
 use Rattle.net_laws.specs.declared.fault.Fault.{Fault}
-use Rattle.guarantee.specs.Kept.{Kept, wired}
+use Rattle.guarantee.specs.Kept.{Kept}
 use Rattle.guarantee.proofs.Making.{kept_more, kept_none, rest_more}
 use Rattle.guarantee.proofs.running.run.Goals as goal
 
 pub loop-i-init : goal.loop-i-init
 loop-i-init g c =
-    let G = g.S.Space in
     let s = c.args.net.now.space in
-    (λ w. (kept_none (wiring G s) (wiring_keeps G s (g.met.S.Space.metric s)) (seen c.args.net.now.board), w), λ k d h. refl, refl)
+    (kept_none (g.C.NetCall.world s) (g.met.C.NetCall.keeps s) (seen c.args.net.now.board), λ k d h. refl, refl)
 
 pub loop-i-preserved : goal.loop-i-preserved
 loop-i-preserved g c =
-    let G = g.S.Space in
     let s = c.args.net.now.space in
+    let W = g.C.NetCall.world in
+    let among : g.row.C.Denot → JoinCall = g.C.NetCall.among in
     let i = c.loop-i.i in
     let calls = c.args.calls.now in
     let xs = c.loop-i.answers in
+    let n₀ = seen c.args.net.now.board in
     let n = seen c.loop-i.net.board in
     let m = seen c.make.new.net.board in
     let r = c.make.result in
-    let d : Call = Pin (record { x = pos 0; y = pos 0; level = pos 0 }) in
-    let call : Call = get_or calls i d in
-    let P : g.row.S.Denot → Type 0 = λ x. Whole G x n → Answers (wiring G x) n m call r × Whole G x m in
+    let call = c.call-item.result in
+    let long = length-take c.min-count.result calls in
+    let h : i < length calls = omega (arith, c.min-count.ensures, c.loop-i-test.true, long) in
+    let k : i < length xs = omega (arith, c.min-count.ensures, c.loop-i.auto.answers, c.loop-i-test.true, long) in
+    let here : get_or calls i call ≡ call = sym (c.call-item.is ∙ get_or-take c.min-count.result calls i call (omega (arith, c.loop-i-test.true, long))) in
+    let P : g.row.S.Denot → Type 0 = λ x. JoinAnswers (W x) n m (among call) r in
+    let Q : List JoinCall → Type 0 = λ cs. Kept (W s) n₀ cs (take (i + 1) (set xs i r)) m in
+    let R : List (Result ℕ Fault) → Type 0 = λ ys. Kept (W s) n₀ (map among (take i calls) ++ among call ∷ []) ys m in
     let a = subst P c.loop-i.invariant.2 c.make.ensures.answer in
-    let h : i < length calls = omega (arith, c.min-count.ensures) in
-    let k : i < length xs = omega (arith, c.min-count.ensures, c.loop-i.auto.answers) in
-    let n₀ = seen c.args.net.now.board in
-    let Q : List JoinCall → Type 0 = λ cs. Kept (wiring G s) n₀ cs (take (i + 1) (set xs i r)) m in
-    let R : List (Result ℕ Fault) → Type 0 = λ ys. Kept (wiring G s) n₀ (wired (take i calls) ++ Wire call ∷ []) ys m in (
-      λ w.
-          let b = c.loop-i.invariant.0 w in
-          let x = a b.1 in
-          (subst Q (sym (map_more Wire calls i d h)) (subst R (sym (take_more_set xs i r k)) (kept_more (wiring G s) (wiring_keeps G s (g.met.S.Space.metric s)) n₀ (wired (take i calls)) (take i xs) n m (Wire call) r b.0 x.0)), x.1),
+    let more = map_more among calls i call h ∙ ap (λ x. map among (take i calls) ++ among x ∷ []) here in (
+      subst Q (sym more) (subst R (sym (take_more_set xs i r k)) (kept_more (W s) (g.met.C.NetCall.keeps s) n₀ (map among (take i calls)) (take i xs) n m (among call) r c.loop-i.invariant.0 a)),
       rest_more c.args.answers.now xs i r c.loop-i.invariant.1,
       c.make.ensures.stays ∙ c.loop-i.invariant.2,
     )
-
-pub returns : goal.returns
-returns g c =
-    let e : c.loop-i.i ≡ c.min-count.result = omega arith in
-    let G = g.S.Space in
-    let s = c.args.net.now.space in
-    let n₀ = seen c.args.net.now.board in
-    let m = seen c.loop-i.net.board in
-    let xs = c.loop-i.answers in
-    let K : ℕ → Type 0 = λ k. Whole G s n₀ → Kept (wiring G s) n₀ (wired (take k c.args.calls.now)) (take k xs) m × Whole G s m in
-    record {
-      count = c.min-count.ensures;
-      kept = subst K e c.loop-i.invariant.0;
-      rest = λ k d h. c.loop-i.invariant.1 k d (omega arith);
-      stays = c.loop-i.invariant.2;
-    }

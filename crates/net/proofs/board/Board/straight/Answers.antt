@@ -1,9 +1,17 @@
-use Rattle.std.proofs.Common.{arith}
-use Rattle.net.proofs.Builds.{straight_count}
+use Rattle.std.proofs.Common.{vec_items, sym, refl, ◌∙◌, arith}
+use Rattle.net.proofs.Builds.{straight_count, straightened}
 use Rattle.net.proofs.board.Board.straight.Goals as goal
 
-pub invariant_of-self-2 : goal.invariant_of-self-2
-invariant_of-self-2 g c =
+pub invariant_of-self : goal.invariant_of-self
+invariant_of-self g c =
     let b = c.args.self.now in
-    let n = straight_count _ _ _ _ _ _ _ c.in-Some.ensures.1 in
+    let a = c.args.allowance in
+    let s = straightened g.S.Space c.args.space.now b.tree (vec_items c.args.builder.now.broken) c.as_slice-spots.result.now (vec_items b.spots) a.p a.q b.pins b.seed (vec_items c.straight-wire.new.self.broken) c.straight-wire.result c.straight-wire.new.tree c.straight-wire.ensures c.as_slice-spots.ensures.value (c.requires.whole ∙ sym b.nodes, b.nodes) _ refl in
+    let n = straight_count _ _ _ _ _ _ _ s in
     record { room = b.room; first = b.first; few = b.few; points = b.points; nodes = b.nodes; tall = λ u. omega (arith, n, b.nodes); two = λ u. c.requires.two }
+
+pub returns-clause-straight : goal.returns-clause-straight
+returns-clause-straight g c =
+    let b = c.args.self.now in
+    let a = c.args.allowance in
+    straightened g.S.Space c.args.space.now b.tree (vec_items c.args.builder.now.broken) c.as_slice-spots.result.now (vec_items b.spots) a.p a.q b.pins b.seed (vec_items c.straight-wire.new.self.broken) c.straight-wire.result c.straight-wire.new.tree c.straight-wire.ensures c.as_slice-spots.ensures.value (c.requires.whole ∙ sym b.nodes, b.nodes) c.unwrap_or.result c.unwrap_or.ensures

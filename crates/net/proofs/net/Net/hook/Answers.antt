@@ -1,16 +1,27 @@
-use Rattle.std.proofs.Common.{◌≡◌, ℕ, Ok, Result, refl, arith, rules}
-use Rattle.net_laws.specs.Answers.{HookAnswer}
-use Rattle.net_laws.specs.Worlds.{cut, wiring}
-use Rattle.net_laws.specs.declared.fault.Fault.{Fault}
+use Rattle.std.proofs.Common.{is_err, refl, ap}
 use Rattle.net.specs.Nets.{seen}
-use Rattle.net.proofs.Owned.{whole_hook}
+use Rattle.net.proofs.Nets.{same_net}
+use Rattle.net.proofs.Owned.{unchanged_by, whole_hook}
 use Rattle.net.proofs.net.Net.hook.Goals as goal
 
-pub returns-in-Some : goal.returns-in-Some
-returns-in-Some g c =
+pub invariant_of-self : goal.invariant_of-self
+invariant_of-self g c =
     let n = c.args.self.now in
     let s = n.space in
     let m = seen c.hook.new.self in
-    let r : Result ℕ Fault = Ok c.in-Some.saving in
-    let a : HookAnswer (cut (wiring g.S.Space s)) (seen n.board) m r = search rules in
-    record { always = a; unchanged = search rules; untouched = λ e. let z : ◌≡◌ {A = ℕ} 0 1 = cc in absurd (omega arith); answer = whole_hook g.S.Space s (g.met.S.Space.metric s) (seen n.board) m r a tt; stays = refl }
+    let t = c.hook.ensures in
+    record { whole = (whole_hook g.S.Space s (g.met.S.Space.metric s) (seen n.board) m c.hook.result t.answer (unchanged_by c.hook.result (seen n.board) m (λ e. ap seen (t.unchanged e))) n.whole).1 }
+
+pub returns-clause-answer : goal.returns-clause-answer
+returns-clause-answer g c =
+    let n = c.args.self.now in
+    let s = n.space in
+    let m = seen c.hook.new.self in
+    let t = c.hook.ensures in
+    (whole_hook g.S.Space s (g.met.S.Space.metric s) (seen n.board) m c.hook.result t.answer (unchanged_by c.hook.result (seen n.board) m (λ e. ap seen (t.unchanged e))) n.whole).0
+
+pub returns-clause-untouched : goal.returns-clause-untouched
+returns-clause-untouched g c = λ e.
+    let t = c.hook.ensures in
+    let w = c.args.self.now.work in
+    same_net _ _ refl (t.unchanged (ap is_err e)) (λ i. record { spanner = w.spanner; refiner = t.untouched e i; builder = w.builder; joiner = w.joiner })

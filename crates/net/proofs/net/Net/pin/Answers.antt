@@ -1,16 +1,27 @@
-use Rattle.std.proofs.Common.{ℕ, Ok, Result, refl, rules}
-use Rattle.net_laws.specs.Answers.{PinAnswer}
-use Rattle.net_laws.specs.Worlds.{cut, wiring}
-use Rattle.net_laws.specs.declared.fault.Fault.{Fault}
+use Rattle.std.proofs.Common.{Ok, refl, rules}
 use Rattle.net.specs.Nets.{seen}
+use Rattle.net.proofs.Nets.{same_net}
 use Rattle.net.proofs.Owned.{whole_pin}
 use Rattle.net.proofs.net.Net.pin.Goals as goal
 
-pub returns : goal.returns
-returns g c =
+pub returns-in_err-fits-clause-unchanged : goal.returns-in_err-fits-clause-unchanged
+returns-in_err-fits-clause-unchanged g c = λ e. same_net _ _ refl refl refl
+
+pub returns-in_err-admitted-clause-unchanged : goal.returns-in_err-admitted-clause-unchanged
+returns-in_err-admitted-clause-unchanged g c = λ e. same_net _ _ refl refl refl
+
+pub returns-then-pins-ge-PINS-clause-unchanged : goal.returns-then-pins-ge-PINS-clause-unchanged
+returns-then-pins-ge-PINS-clause-unchanged g c = λ e. same_net _ _ refl refl refl
+
+pub returns-then-not-apart-clause-unchanged : goal.returns-then-not-apart-clause-unchanged
+returns-then-not-apart-clause-unchanged g c = λ e. same_net _ _ refl refl refl
+
+pub invariant_of-self-2 : goal.invariant_of-self-2
+invariant_of-self-2 g c =
     let n = c.args.self.now in
-    let s = n.space in
-    let m = seen c.add_pin.new.self in
-    let r : Result ℕ Fault = Ok c.add_pin.result in
-    let a : PinAnswer (cut (wiring g.S.Space s)) (seen n.board) m c.args.spot r = search rules in
-    record { always = a; unchanged = search rules; answer = whole_pin g.S.Space s (g.met.S.Space.metric s) (seen n.board) m c.args.spot r a tt; stays = refl }
+    record { whole = (whole_pin g.S.Space n.space (g.met.S.Space.metric n.space) (seen n.board) (seen c.add_pin.new.self) c.args.spot (Ok c.add_pin.result) (search rules) tt n.whole).1 }
+
+pub returns-clause-answer : goal.returns-clause-answer
+returns-clause-answer g c =
+    let n = c.args.self.now in
+    (whole_pin g.S.Space n.space (g.met.S.Space.metric n.space) (seen n.board) (seen c.add_pin.new.self) c.args.spot (Ok c.add_pin.result) (search rules) tt n.whole).0

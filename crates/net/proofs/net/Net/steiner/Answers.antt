@@ -1,16 +1,14 @@
-use Rattle.std.proofs.Common.{ℕ, Ok, Result, refl, rules}
-use Rattle.net_laws.specs.Answers.{SteinerAnswer}
-use Rattle.net_laws.specs.Worlds.{cut, wiring}
-use Rattle.net_laws.specs.declared.fault.Fault.{Fault}
+use Rattle.std.proofs.Common.{Ok, rules}
 use Rattle.net.specs.Nets.{seen}
 use Rattle.net.proofs.Owned.{whole_steiner}
 use Rattle.net.proofs.net.Net.steiner.Goals as goal
 
-pub returns : goal.returns
-returns g c =
+pub invariant_of-self : goal.invariant_of-self
+invariant_of-self g c =
     let n = c.args.self.now in
-    let s = n.space in
-    let m = seen c.add_point.new.self in
-    let r : Result ℕ Fault = Ok c.add_point.result in
-    let a : SteinerAnswer (cut (wiring g.S.Space s)) (seen n.board) m c.args.spot r = search rules in
-    record { always = a; unchanged = search rules; answer = whole_steiner g.S.Space s (g.met.S.Space.metric s) (seen n.board) m c.args.spot r a tt; stays = refl }
+    record { whole = (whole_steiner g.S.Space n.space (g.met.S.Space.metric n.space) (seen n.board) (seen c.add_point.new.self) c.args.spot (Ok c.add_point.result) (search rules) tt n.whole).1 }
+
+pub returns-clause-answer : goal.returns-clause-answer
+returns-clause-answer g c =
+    let n = c.args.self.now in
+    (whole_steiner g.S.Space n.space (g.met.S.Space.metric n.space) (seen n.board) (seen c.add_point.new.self) c.args.spot (Ok c.add_point.result) (search rules) tt n.whole).0

@@ -4,12 +4,12 @@ use Rattle.span.specs.Lengths.{length_of}
 use Rattle.tree.specs.Tables.{rows_of}
 use Rattle.net.specs.Nets.{seen}
 use Rattle.net.proofs.Worsts.{leads_more, leads_same}
-use Rattle.net.proofs.worst.worst_of.Goals as goal
-use Rattle.net.proofs.worst.worst_of.Goals.{then-figure-worst, else-figure-worst}
+use Rattle.net.proofs.board.standing.Built.worst.Goals as goal
+use Rattle.net.proofs.board.standing.Built.worst.Goals.{then-figure-worst, else-figure-worst}
 
 pub loop-k-preserved : goal.loop-k-preserved
 loop-k-preserved g c =
-    let b = c.args.board.now in
+    let b = c.args.self.now.board.now in
     let f : ℕ → ℕ = figure_of (length_of g.S.Space c.args.space.now) (seen b) (rows_of b.tree) in
     let old = c.loop-k.worst in
     let x = c.figure-figure.result in

@@ -1,11 +1,11 @@
 use Rattle.std.proofs.Common.{length, arith}
 use Rattle.tree.specs.Tables.{rows_of}
 use Rattle.tree_laws.proofs.Steps.{path_bound}
-use Rattle.net.proofs.Worsts.{answered_some}
-use Rattle.net.proofs.worst.figure.Goals as goal
+use Rattle.net.proofs.Worsts.{answered_or}
+use Rattle.net.proofs.board.standing.Built.figure.Goals as goal
 
 pub overflow_mul-result : goal.overflow_mul-result
 overflow_mul-result g c =
     let t = c.tree.result.now in
     let k = c.args.k in
-    omega (arith, answered_some _ _ c.in-Some.path c.in-Some.ensures.path, path_bound (rows_of t) 100000000 t.lengths (length (rows_of t)) k, t.few)
+    omega (arith, answered_or _ _ _ c.path.ensures.path, c.unwrap_or.ensures, path_bound (rows_of t) 100000000 t.lengths (length (rows_of t)) k, t.few)
