@@ -11,7 +11,7 @@ fn next(state: u64) -> u64 {
         .wrapping_add(1_442_695_040_888_963_407)
 }
 
-// From -500 to 500.
+// From -500 to 500. Kept: `as`, which is proved to lose nothing here; `i32::try_from` would need a value for a failure that cannot come.
 fn coordinate(state: u64) -> i32 {
     ((state >> 33) % 1001) as i32 - 500
 }
@@ -31,14 +31,11 @@ fn scatter<S: Space>(net: &mut Net<S>) -> usize {
     pins
 }
 
+// Kept: the program `route` has the same sum, and a program exports nothing to a test crate.
 fn wire<S: Space>(net: &Net<S>) -> u64 {
-    let mut wire = 0u64;
-    for k in 0..768 {
-        if let Ok(row) = net.row(k) {
-            wire = wire.saturating_add(row.length);
-        }
-    }
-    wire
+    (0..768)
+        .map_while(|k| net.row(k).ok())
+        .fold(0, |wire: u64, row| wire.saturating_add(row.length))
 }
 
 // Whether the parents of the row lead to the driver.
@@ -48,10 +45,10 @@ fn hangs<S: Space>(net: &Net<S>, k: usize) -> bool {
         if at == 0 {
             return true;
         }
-        at = match net.row(at) {
-            Ok(row) => row.parent,
-            Err(_) => return false,
+        let Ok(row) = net.row(at) else {
+            return false;
         };
+        at = row.parent;
     }
     false
 }
@@ -74,11 +71,7 @@ fn check_tree<S: Space>(rt: &impl Abort, net: &Net<S>, expected: u64) {
 fn refine<S: Joining>(rt: &impl Abort, net: &mut Net<S>) -> Result<u64, Fail> {
     let mut before = wire(net);
     for moves in 0..1500 {
-        let answer = match net.hook() {
-            Ok(saving) => Ok(saving),
-            Err(_) => net.share(),
-        };
-        let Ok(saving) = answer else {
+        let Ok(saving) = net.hook().or_else(|_| net.share()) else {
             return Ok(moves);
         };
         let after = wire(net);

@@ -10,17 +10,17 @@ use tree::Table;
 use walk::Allowance;
 
 // Two rows on the driver and a third on the first of them; wire 14.
-fn add_rows(table: &mut Table) -> bool {
-    table.add(0, at(4, 3), 7).is_some()
-        && table.add(0, at(5, 1), 6).is_some()
-        && table.add(1, at(4, 4), 1).is_some()
+fn add_rows(rt: &impl Abort, table: &mut Table) {
+    assert_eq!(rt; table.add(0, at(4, 3), 7), Some(1));
+    assert_eq!(rt; table.add(0, at(5, 1), 6), Some(2));
+    assert_eq!(rt; table.add(1, at(4, 4), 1), Some(3));
 }
 
 // Members that fall, that come twice, the driver, a row on another row, and no row.
 const BAD: [[usize; 2]; 5] = [[2, 1], [1, 1], [0, 1], [1, 3], [1, 4]];
 
 fn check_joiner(rt: &impl Abort, joiner: &mut Joiner, table: &mut Table) {
-    assert!(rt; add_rows(table));
+    add_rows(rt, table);
     for members in BAD {
         assert!(rt; joiner.join(&Plane, table, &members).is_none());
         assert!(rt; table.len() == 4 && table.wire() == 14);
@@ -39,15 +39,14 @@ fn joins(rt: HostRuntime) -> Result<(), Fail> {
 
 // The wire of the straight tree of (0, 0), (5, 5) and (5, 0) that allows nothing.
 fn straight(builder: &mut Builder, seed: &Seed, table: &mut Table) -> Option<u64> {
-    let Some(spare) = Allowance::new(0, 1) else {
-        return None;
-    };
+    let spare = Allowance::new(0, 1)?;
     let spots = [at(0, 0), at(5, 5), at(5, 0)];
     builder.straight(&Plane, &spots, 3, spare, seed, table)
 }
 
 fn check_builder(rt: &impl Abort, builder: &mut Builder, seed: &mut Seed, table: &mut Table) {
-    assert!(rt; add_rows(table) && seed.restart(3).is_ok() && seed.join(0, 1, 10).is_ok());
+    add_rows(rt, table);
+    assert!(rt; seed.restart(3).is_ok() && seed.join(0, 1, 10).is_ok());
     assert!(rt; straight(builder, seed, table).is_none(), "no tree");
     assert!(rt; table.len() == 4 && table.wire() == 14 && builder.broken().len() == 0);
     assert!(rt; seed.join(1, 2, 5).is_ok());

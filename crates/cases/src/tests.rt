@@ -1,7 +1,7 @@
 // The calls behind the rows of the table, made.
 use super::worked_cases;
 use seed::Seed;
-use space::{Air, Joining, Lift, Plane, Space, Spot};
+use space::{Air, Joining, Lift, Plane, Space, Spot, spot_of};
 use span::Spanner;
 use std::process::Abort;
 use std::test::Fail;
@@ -50,14 +50,6 @@ fn spaces(rt: HostRuntime) {
     assert!(rt; wide.widest() > 100_000_000);
 }
 
-// Whether the seed is walked, with the allowance p/q.
-fn walked(table: &mut Table, seed: &Seed, pins: usize, p: u64, q: u64) -> bool {
-    let Some(allowance) = Allowance::new(p, q) else {
-        return false;
-    };
-    table.walk(seed, pins, allowance)
-}
-
 // The marks of the walk over the seed that joins each pin with the next: estimate, parent, length and whether it is a breakpoint.
 fn check_walk(
     rt: &(impl Abort + AllocGlobal),
@@ -69,22 +61,20 @@ fn check_walk(
     let mut seed = Seed::new(rt.alloc())?;
     let mut table = Table::new(rt.alloc())?;
     assert!(rt; seed.restart(pins.len()).is_ok());
-    let mut driver = ground(0, 0);
-    let mut last = ground(0, 0);
-    for (i, pin) in pins.iter().enumerate() {
-        if i == 0 {
-            driver = *pin;
-        } else {
-            let length = Plane.distance(last, *pin).unwrap_or(0);
-            assert!(rt; seed.join(i - 1, i, length).is_ok());
-        }
-        last = *pin;
-        assert_eq!(rt;
-            table.add(Plane.distance(driver, *pin).unwrap_or(0)),
-            Some(i)
-        );
+    for (i, pair) in pins.windows(2).enumerate() {
+        let [a, b] = pair else {
+            return Err(Fail::new("no pair"));
+        };
+        let length = Plane.distance(*a, *b).unwrap_or(0);
+        assert!(rt; seed.join(i, i.saturating_add(1), length).is_ok());
     }
-    assert!(rt; walked(&mut table, &seed, pins.len(), p, q));
+    let driver = spot_of(pins, 0);
+    for (i, pin) in pins.iter().enumerate() {
+        let direct = Plane.distance(driver, *pin).unwrap_or(0);
+        assert_eq!(rt; table.add(direct), Some(i));
+    }
+    let allowance = Allowance::new(p, q).ok_or("no allowance")?;
+    assert!(rt; table.walk(&seed, pins.len(), allowance).is_ok());
     for (i, (est, parent, edge, broken)) in marks.iter().copied().enumerate() {
         let mark = table.mark(i).ok_or("no row")?;
         assert_eq!(rt; (mark.est, mark.parent), (Some(est), parent));

@@ -1,11 +1,19 @@
-// What is said of a sink in a space.
+// Why a space has no distance for a sink.
+use std::fmt;
 
-#[derive(Clone, Copy)]
-pub enum Reading {
-    /// The distance from the driver.
-    Distance(u64),
+#[derive(Clone, Copy, Debug, PartialEq, Eq)]
+pub enum Unread {
     /// The sink is not admitted.
     NotAdmitted,
     /// The sink is admitted, and the driver is not.
     NoDriver,
+}
+
+impl fmt::Display for Unread {
+    fn fmt<W: fmt::Write>(&self, f: &mut fmt::Formatter<W>) -> fmt::Result {
+        match self {
+            Unread::NotAdmitted => write!(f, "not admitted"),
+            Unread::NoDriver => write!(f, "no distance"),
+        }
+    }
 }

@@ -16,6 +16,7 @@ pub(crate) fn at(x: i32, y: i32) -> Spot {
 #[derive(Clone, Copy)]
 pub(crate) enum Said {
     Is(u64),
+    // Kept: the tests pin the numbers that users are told, not the names behind them.
     No(u8),
     One,
     Two,
@@ -32,7 +33,7 @@ pub(crate) fn check_refused<T: Drop>(
         Ok(_) => Err(Fail::new("answered")),
         Err(fault) => {
             assert_eq!(rt; fault.number(), number);
-            assert_eq!(rt; matches!(fault.layer(), Layer::Space), number <= 2);
+            assert_eq!(rt; fault.layer() == Layer::Space, number <= 2);
             Ok(())
         }
     }
@@ -59,10 +60,7 @@ pub(crate) fn check_answers(
 ) {
     assert_eq!(rt; answers.len(), expected.len());
     for (i, (answer, said)) in answers.iter().zip(expected.iter()).enumerate() {
-        let answer = match answer {
-            Ok(n) => Ok(*n),
-            Err(fault) => Err(fault.number()),
-        };
+        let answer = answer.map_err(|fault| fault.number());
         assert_eq!(rt; (i, answer), (i, wanted(*said, one, two)));
     }
 }
@@ -71,7 +69,7 @@ fn mixed(sum: u64, n: u64) -> u64 {
     (sum ^ n).wrapping_mul(1_099_511_628_211)
 }
 
-// A number that every answer of `row`, `path` and `worst` goes into.
+// A number that every answer of `row`, `path` and `worst` goes into. Kept: there is no `From` between `usize` and `u64`.
 pub(crate) fn print_of<S: Space>(net: &Net<S>) -> u64 {
     let mut sum = 0;
     for k in 0..800 {

@@ -8,6 +8,7 @@ use space_tests::line::Line;
 use std::process::Abort;
 use std::test::Fail;
 
+// Kept: a constant calls no function, `Spot::default` neither.
 const O: Spot = Spot {
     x: 0,
     y: 0,
@@ -21,135 +22,80 @@ const OUT: Spot = Spot {
 };
 
 // The pin at 8 is replaced by another.
-const CALLS: [Call; 30] = [
-    Call::Hook,
-    Call::Span,
-    Call::Straight,
-    Call::Steiner(O),
-    Call::Pin(O),
-    Call::Pin(O),
-    Call::Pin(OUT),
-    Call::Edge(0, 0),
-    Call::Pin(O),
-    Call::Straight,
-    Call::Allow(1, 0),
-    Call::Allow(1, 4),
-    Call::Straight,
-    Call::Edge(0, 1),
-    Call::Edge(1, 0),
-    Call::Straight,
-    Call::Straight,
-    Call::Hook,
-    Call::Pin(OUT),
-    Call::Hook,
-    Call::Steiner(O),
-    Call::Hook,
-    Call::Edge(0, 2),
-    Call::Edge(2, 3),
-    Call::Straight,
-    Call::Span,
-    Call::Straight,
-    Call::Unseed,
-    Call::Unseed,
-    Call::Straight,
-];
-
-const SAID: [Said; 30] = [
-    Said::No(13),
-    Said::No(6),
-    Said::No(6),
-    Said::No(6),
-    Said::Is(0),
-    Said::No(4),
-    Said::No(2),
-    Said::No(6),
-    Said::Is(1),
-    Said::No(11),
-    Said::No(5),
-    Said::Is(0),
-    Said::No(12),
-    Said::One,
-    Said::No(9),
-    Said::One,
-    Said::One,
-    Said::No(14),
-    Said::No(2),
-    Said::No(14),
-    Said::Is(2),
-    Said::No(13),
-    Said::No(10),
-    Said::No(8),
-    Said::No(12),
-    Said::One,
-    Said::One,
-    Said::Is(0),
-    Said::Is(0),
-    Said::No(12),
+const CALLS: [(Call, Said); 30] = [
+    (Call::Hook, Said::No(13)),
+    (Call::Span, Said::No(6)),
+    (Call::Straight, Said::No(6)),
+    (Call::Steiner(O), Said::No(6)),
+    (Call::Pin(O), Said::Is(0)),
+    (Call::Pin(O), Said::No(4)),
+    (Call::Pin(OUT), Said::No(2)),
+    (Call::Edge(0, 0), Said::No(6)),
+    (Call::Pin(O), Said::Is(1)),
+    (Call::Straight, Said::No(11)),
+    (Call::Allow(1, 0), Said::No(5)),
+    (Call::Allow(1, 4), Said::Is(0)),
+    (Call::Straight, Said::No(12)),
+    (Call::Edge(0, 1), Said::One),
+    (Call::Edge(1, 0), Said::No(9)),
+    (Call::Straight, Said::One),
+    (Call::Straight, Said::One),
+    (Call::Hook, Said::No(14)),
+    (Call::Pin(OUT), Said::No(2)),
+    (Call::Hook, Said::No(14)),
+    (Call::Steiner(O), Said::Is(2)),
+    (Call::Hook, Said::No(13)),
+    (Call::Edge(0, 2), Said::No(10)),
+    (Call::Edge(2, 3), Said::No(8)),
+    (Call::Straight, Said::No(12)),
+    (Call::Span, Said::One),
+    (Call::Straight, Said::One),
+    (Call::Unseed, Said::Is(0)),
+    (Call::Unseed, Said::Is(0)),
+    (Call::Straight, Said::No(12)),
 ];
 
 // The pins at 3 and 4 are replaced by others, the second twice as far as the first in x and y.
-const MORE: [JoinCall; 22] = [
-    JoinCall::Share,
-    JoinCall::Joined,
-    JoinCall::Wire(Call::Pin(O)),
-    JoinCall::Wire(Call::Pin(O)),
-    JoinCall::Wire(Call::Pin(O)),
-    JoinCall::Joined,
-    JoinCall::Wire(Call::Allow(0, 1)),
-    JoinCall::Joined,
-    JoinCall::Wire(Call::Edge(0, 1)),
-    JoinCall::Wire(Call::Edge(0, 2)),
-    JoinCall::Joined,
-    JoinCall::Share,
-    JoinCall::Share,
-    JoinCall::Joined,
-    JoinCall::Wire(Call::Hook),
-    JoinCall::Share,
-    JoinCall::Wire(Call::Pin(O)),
-    JoinCall::Wire(Call::Pin(OUT)),
-    JoinCall::Wire(Call::Hook),
-    JoinCall::Wire(Call::Unseed),
-    JoinCall::Share,
-    JoinCall::Joined,
+const MORE: [(JoinCall, Said); 22] = [
+    (JoinCall::Share, Said::No(13)),
+    (JoinCall::Joined, Said::No(6)),
+    (JoinCall::Wire(Call::Pin(O)), Said::Is(0)),
+    (JoinCall::Wire(Call::Pin(O)), Said::Is(1)),
+    (JoinCall::Wire(Call::Pin(O)), Said::Is(2)),
+    (JoinCall::Joined, Said::No(11)),
+    (JoinCall::Wire(Call::Allow(0, 1)), Said::Is(0)),
+    (JoinCall::Joined, Said::No(12)),
+    (JoinCall::Wire(Call::Edge(0, 1)), Said::One),
+    (JoinCall::Wire(Call::Edge(0, 2)), Said::Two),
+    (JoinCall::Joined, Said::Both),
+    (JoinCall::Share, Said::One),
+    (JoinCall::Share, Said::No(14)),
+    (JoinCall::Joined, Said::Both),
+    (JoinCall::Wire(Call::Hook), Said::One),
+    (JoinCall::Share, Said::No(14)),
+    (JoinCall::Wire(Call::Pin(O)), Said::No(4)),
+    (JoinCall::Wire(Call::Pin(OUT)), Said::No(2)),
+    (JoinCall::Wire(Call::Hook), Said::No(14)),
+    (JoinCall::Wire(Call::Unseed), Said::Is(0)),
+    (JoinCall::Share, Said::No(13)),
+    (JoinCall::Joined, Said::No(12)),
 ];
 
-const MORE_SAID: [Said; 22] = [
-    Said::No(13),
-    Said::No(6),
-    Said::Is(0),
-    Said::Is(1),
-    Said::Is(2),
-    Said::No(11),
-    Said::Is(0),
-    Said::No(12),
-    Said::One,
-    Said::Two,
-    Said::Both,
-    Said::One,
-    Said::No(14),
-    Said::Both,
-    Said::One,
-    Said::No(14),
-    Said::No(4),
-    Said::No(2),
-    Said::No(14),
-    Said::Is(0),
-    Said::No(13),
-    Said::No(12),
+const REFUSED: [(Call, Said); 4] = [
+    (Call::Pin(O), Said::No(1)),
+    (Call::Pin(OUT), Said::No(1)),
+    (Call::Span, Said::No(6)),
+    (Call::Unseed, Said::Is(0)),
 ];
-
-const REFUSED: [Call; 4] = [Call::Pin(O), Call::Pin(OUT), Call::Span, Call::Unseed];
-
-const REFUSED_SAID: [Said; 4] = [Said::No(1), Said::No(1), Said::No(6), Said::Is(0)];
 
 fn calls_to(first: Spot) -> [Call; 30] {
-    let mut calls = CALLS;
+    let mut calls = CALLS.map(|(call, _)| call);
     calls[8] = Call::Pin(first);
     calls
 }
 
 fn more_to(first: Spot, second: Spot) -> [JoinCall; 22] {
-    let mut more = MORE;
+    let mut more = MORE.map(|(call, _)| call);
     more[3] = JoinCall::Wire(Call::Pin(first));
     more[4] = JoinCall::Wire(Call::Pin(second));
     more
@@ -182,8 +128,8 @@ fn check_lists<W: Space + Drop, J: Joining + Drop>(
         &mut others,
     );
     assert!(rt; made.wiring == 30 && made.joining == 22);
-    check_answers(rt, &answers, &SAID, near, 0);
-    check_answers(rt, &others, &MORE_SAID, one, two);
+    check_answers(rt, &answers, &CALLS.map(|(_, said)| said), near, 0);
+    check_answers(rt, &others, &MORE.map(|(_, said)| said), one, two);
     Ok(())
 }
 
@@ -219,7 +165,8 @@ fn too_wide(rt: HostRuntime) -> Result<(), Fail> {
     };
     let mut net = Net::new(rt.alloc(), wide)?;
     let mut answers = [NONE; 4];
-    assert_eq!(rt; run(&mut net, &REFUSED, &mut answers), 4);
-    check_answers(&rt, &answers, &REFUSED_SAID, 0, 0);
+    let calls = REFUSED.map(|(call, _)| call);
+    assert_eq!(rt; run(&mut net, &calls, &mut answers), 4);
+    check_answers(&rt, &answers, &REFUSED.map(|(_, said)| said), 0, 0);
     Ok(())
 }

@@ -1,13 +1,14 @@
 // The worked nets, as calls.
 use crate::asking::{NONE, Said, check_answers};
 use crate::refusals::check_standing;
-use guarantee::run_joining;
+use guarantee::run;
 use net::Net;
 use net_laws::{Call, JoinCall};
 use space::{Plane, Space, Spot};
 use std::process::Abort;
 use std::test::Fail;
 
+// Kept: a constant calls no function, `Spot::default` neither.
 const O: JoinCall = JoinCall::Wire(Call::Pin(Spot {
     x: 0,
     y: 0,
@@ -56,66 +57,39 @@ const LAST: JoinCall = JoinCall::Wire(Call::Edge(2, 3));
 
 const OTHER: JoinCall = JoinCall::Wire(Call::Edge(0, 2));
 
-const FORK: [JoinCall; 10] = [
-    O,
-    LEFT,
-    HIGH,
-    LOW,
-    SPARE,
-    FIRST,
-    NEXT,
-    LAST,
-    STRAIGHT,
-    JoinCall::Joined,
+const FORK: [(JoinCall, Said); 10] = [
+    (O, Said::Is(0)),
+    (LEFT, Said::Is(1)),
+    (HIGH, Said::Is(2)),
+    (LOW, Said::Is(3)),
+    (SPARE, Said::Is(0)),
+    (FIRST, Said::Is(6)),
+    (NEXT, Said::Is(13)),
+    (LAST, Said::Is(3)),
+    (STRAIGHT, Said::Is(19)),
+    (JoinCall::Joined, Said::Is(14)),
 ];
 
-const FORK_SAID: [Said; 10] = [
-    Said::Is(0),
-    Said::Is(1),
-    Said::Is(2),
-    Said::Is(3),
-    Said::Is(0),
-    Said::Is(6),
-    Said::Is(13),
-    Said::Is(3),
-    Said::Is(19),
-    Said::Is(14),
+const CORNER: [(JoinCall, Said); 7] = [
+    (O, Said::Is(0)),
+    (UPPER, Said::Is(1)),
+    (LOWER, Said::Is(2)),
+    (FIRST, Said::Is(10)),
+    (NEXT, Said::Is(5)),
+    (SPARE, Said::Is(0)),
+    (STRAIGHT, Said::Is(10)),
 ];
 
-const CORNER: [JoinCall; 7] = [O, UPPER, LOWER, FIRST, NEXT, SPARE, STRAIGHT];
-
-const CORNER_SAID: [Said; 7] = [
-    Said::Is(0),
-    Said::Is(1),
-    Said::Is(2),
-    Said::Is(10),
-    Said::Is(5),
-    Said::Is(0),
-    Said::Is(10),
-];
-
-const SHARED: [JoinCall; 9] = [
-    O,
-    HIGH,
-    LOW,
-    SPARE,
-    FIRST,
-    OTHER,
-    NEXT,
-    JoinCall::Joined,
-    JoinCall::Share,
-];
-
-const SHARED_SAID: [Said; 9] = [
-    Said::Is(0),
-    Said::Is(1),
-    Said::Is(2),
-    Said::Is(0),
-    Said::Is(7),
-    Said::Is(6),
-    Said::No(9),
-    Said::Is(13),
-    Said::Is(5),
+const SHARED: [(JoinCall, Said); 9] = [
+    (O, Said::Is(0)),
+    (HIGH, Said::Is(1)),
+    (LOW, Said::Is(2)),
+    (SPARE, Said::Is(0)),
+    (FIRST, Said::Is(7)),
+    (OTHER, Said::Is(6)),
+    (NEXT, Said::No(9)),
+    (JoinCall::Joined, Said::Is(13)),
+    (JoinCall::Share, Said::Is(5)),
 ];
 
 // The rows of a tree: parent, x, y and length.
@@ -136,45 +110,45 @@ const SHARED_ROWS: [(usize, i32, i32, u64); 4] = [
     (0, 4, 1, 5),
 ];
 
-const SQUARE: [JoinCall; 5] = [
-    O,
-    JoinCall::Wire(Call::Pin(Spot {
-        x: 6,
-        y: 0,
-        level: 0,
-    })),
-    JoinCall::Wire(Call::Pin(Spot {
-        x: 6,
-        y: 6,
-        level: 0,
-    })),
-    JoinCall::Wire(Call::Pin(Spot {
-        x: 0,
-        y: 6,
-        level: 0,
-    })),
-    JoinCall::Wire(Call::Span),
-];
-
-const SQUARE_SAID: [Said; 5] = [
-    Said::Is(0),
-    Said::Is(1),
-    Said::Is(2),
-    Said::Is(3),
-    Said::Is(18),
+const SQUARE: [(JoinCall, Said); 5] = [
+    (O, Said::Is(0)),
+    (
+        JoinCall::Wire(Call::Pin(Spot {
+            x: 6,
+            y: 0,
+            level: 0,
+        })),
+        Said::Is(1),
+    ),
+    (
+        JoinCall::Wire(Call::Pin(Spot {
+            x: 6,
+            y: 6,
+            level: 0,
+        })),
+        Said::Is(2),
+    ),
+    (
+        JoinCall::Wire(Call::Pin(Spot {
+            x: 0,
+            y: 6,
+            level: 0,
+        })),
+        Said::Is(3),
+    ),
+    (JoinCall::Wire(Call::Span), Said::Is(18)),
 ];
 
 // The net in the plane that the calls leave, once they answered so.
-fn net_of(
+fn net_of<const N: usize>(
     rt: &(impl Abort + AllocGlobal),
-    calls: &[JoinCall],
-    expected: &[Said],
+    calls: [(JoinCall, Said); N],
 ) -> Result<Net<Plane>, Fail> {
     let mut net = Net::new(rt.alloc(), Plane)?;
-    let mut places = [NONE; 16];
-    let made = run_joining(&mut net, calls, &mut places);
-    assert!(rt; made == calls.len() && made <= 16);
-    check_answers(rt, &places[0..made], expected, 0, 0);
+    let mut answers = [NONE; N];
+    let made = run(&mut net, &calls.map(|(call, _)| call), &mut answers);
+    assert_eq!(rt; made, N);
+    check_answers(rt, &answers, &calls.map(|(_, said)| said), 0, 0);
     Ok(net)
 }
 
@@ -185,9 +159,7 @@ fn check_rows<S: Space>(
     rows: &[(usize, i32, i32, u64)],
 ) -> Result<(), Fail> {
     for (k, (parent, x, y, length)) in rows.iter().copied().enumerate() {
-        let Ok(row) = net.row(k) else {
-            return Err(Fail::new("no row"));
-        };
+        let row = net.row(k).map_err(|_| "no row")?;
         assert_eq!(rt; (row.parent, row.length), (parent, length));
         assert_eq!(rt; (row.spot.x, row.spot.y), (x, y));
     }
@@ -197,22 +169,22 @@ fn check_rows<S: Space>(
 
 #[test]
 fn fork(rt: HostRuntime) -> Result<(), Fail> {
-    check_rows(&rt, &net_of(&rt, &FORK, &FORK_SAID)?, &FORK_ROWS)
+    check_rows(&rt, &net_of(&rt, FORK)?, &FORK_ROWS)
 }
 
 #[test]
 fn corner(rt: HostRuntime) -> Result<(), Fail> {
-    check_rows(&rt, &net_of(&rt, &CORNER, &CORNER_SAID)?, &CORNER_ROWS)
+    check_rows(&rt, &net_of(&rt, CORNER)?, &CORNER_ROWS)
 }
 
 #[test]
 fn square(rt: HostRuntime) -> Result<(), Fail> {
-    check_rows(&rt, &net_of(&rt, &SQUARE, &SQUARE_SAID)?, &[])
+    check_rows(&rt, &net_of(&rt, SQUARE)?, &[])
 }
 
 #[test]
 fn shared(rt: HostRuntime) -> Result<(), Fail> {
-    let mut net = net_of(&rt, &SHARED, &SHARED_SAID)?;
+    let mut net = net_of(&rt, SHARED)?;
     check_rows(&rt, &net, &SHARED_ROWS)?;
     check_standing(&rt, &mut net)?;
     check_rows(&rt, &net, &SHARED_ROWS)

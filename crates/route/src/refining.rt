@@ -8,72 +8,61 @@ use space::{Joining, Space};
 /// The most turns of refining. Each move saves 1 or more, so the moves run out, but in a wide space there may be more of them than this.
 pub const TURNS: u32 = 768 * 768;
 
-/// What refining did: how many moves of each kind it made, what they saved, and whether it went on until it was refused.
-#[derive(Clone, Copy)]
-pub struct Refined {
-    pub hooks: u64,
-    pub shares: u64,
+/// How many moves of one kind were made, and what they saved.
+#[derive(Clone, Copy, Default)]
+pub struct Made {
+    pub moves: u64,
     pub saved: u64,
+}
+
+/// What refining did, and whether it went on until it was refused.
+#[derive(Clone, Copy, Default)]
+pub struct Refined {
+    pub hooks: Made,
+    pub shares: Made,
+    // Kept: a plain yes or no, with no value beside it.
     pub refused: bool,
 }
 
-impl Refined {
-    fn new() -> Refined {
-        Refined {
-            hooks: 0,
-            shares: 0,
-            saved: 0,
-            refused: false,
+impl Made {
+    /// Counts a move where it was made, and answers whether it was.
+    // Kept: a plain yes or no, which the turns ask; the saving has gone into the count.
+    fn count(&mut self, answer: Result<u64, Fault>) -> bool
+        ensures { result ≡ is_ok answer }
+    {
+        let Ok(saving) = answer else {
+            return false;
+        };
+        self.moves = self.moves.saturating_add(1);
+        self.saved = self.saved.saturating_add(saving);
+        true
+    }
+}
+
+/// Makes turn after turn until one makes no move.
+fn turns<T: FnMut(&mut Refined) -> bool>(mut turn: T) -> Refined
+    requires { T.IsAlwaysCallable turn }
+{
+    let mut refined = Refined::default();
+    for _ in 0..TURNS {
+        if !turn(&mut refined) {
+            refined.refused = true;
+            return refined;
         }
     }
-
-    /// Counts a hook where it was made, and answers whether it was.
-    fn hooked(&mut self, answer: Result<u64, Fault>) -> bool
-        ensures { result ≡ is_ok answer }
-    {
-        let Ok(saving) = answer else {
-            return false;
-        };
-        self.hooks = self.hooks.saturating_add(1);
-        self.saved = self.saved.saturating_add(saving);
-        true
-    }
-
-    /// Counts a share where it was made, and answers whether it was.
-    fn shared(&mut self, answer: Result<u64, Fault>) -> bool
-        ensures { result ≡ is_ok answer }
-    {
-        let Ok(saving) = answer else {
-            return false;
-        };
-        self.shares = self.shares.saturating_add(1);
-        self.saved = self.saved.saturating_add(saving);
-        true
-    }
+    refined
 }
 
 /// Hooks until a hook is refused.
 pub fn hooks<S: Space>(net: &mut Net<S>) -> Refined {
-    let mut refined = Refined::new();
-    for _ in 0..TURNS {
-        if !refined.hooked(net.hook()) {
-            refined.refused = true;
-            return refined;
-        }
-    }
-    refined
+    turns(|refined| refined.hooks.count(net.hook()))
 }
 
 /// Hooks and shares in turn until both are refused in one turn.
 pub fn hooks_and_shares<S: Joining>(net: &mut Net<S>) -> Refined {
-    let mut refined = Refined::new();
-    for _ in 0..TURNS {
-        let hooked = refined.hooked(net.hook());
-        let shared = refined.shared(net.share());
-        if !hooked && !shared {
-            refined.refused = true;
-            return refined;
-        }
-    }
-    refined
+    turns(|refined| {
+        let hooked = refined.hooks.count(net.hook());
+        let shared = refined.shares.count(net.share());
+        hooked || shared
+    })
 }

@@ -1,140 +1,152 @@
 // A net from its pins to its refined tree.
-ghost use Rattle.std.specs.Prelude.{◌≡◌, ◌+◌, ◌*◌, ◌/◌, is_ok, IfOk};
+ghost use Rattle.std.specs.Prelude.{◌≡◌, ◌+◌, ◌*◌, ◌/◌, true, is_ok, IfOk};
 
-use crate::reading::Entry;
+use crate::printing::{print_figure, print_refusal};
 use crate::refining::{Refined, TURNS, hooks, hooks_and_shares};
 use crate::refusal::Refusal;
 use crate::table::{print_rows, wire};
+use input::Entry;
 use net::Net;
-use net_laws::Fault;
+use net_laws::{Fault, Worst};
 use space::{Joining, Space};
 use std::io;
 use walk::Allowance;
 
-/// Routes the spots in a space that can only measure, and answers how many pins were routed: all that were taken, or none.
-pub fn measuring<S: Space>(
-    rt: &HostRuntime,
-    net: &mut Net<S>,
-    entries: &[Entry],
-    allowance: Allowance,
-) -> io::Result<u32> {
-    let pins = enter(rt, net, entries)?;
-    if !build(rt, net, allowance)? {
-        return Ok(0);
-    }
-    let refined = hooks(net);
-    finish(rt, net, refined, allowance)?;
-    Ok(pins)
+/// Why a net is not routed: a line could not be printed, or a call was refused.
+#[derive(Drop)]
+enum Stop {
+    Print(io::Error),
+    Refused(&'static str, Fault),
 }
 
-/// Routes the spots in a space that can join wires too, and answers how many pins were routed: all that were taken, or none.
-pub fn joining<S: Joining>(
-    rt: &HostRuntime,
-    net: &mut Net<S>,
-    entries: &[Entry],
-    allowance: Allowance,
-) -> io::Result<u32> {
-    let pins = enter(rt, net, entries)?;
-    if !build(rt, net, allowance)? || !done(rt, "joined tree", net.joined())? {
-        return Ok(0);
+impl From<io::Error> for Stop {
+    fn from(error: io::Error) -> Stop {
+        Stop::Print(error)
     }
-    let refined = hooks_and_shares(net);
-    finish(rt, net, refined, allowance)?;
-    Ok(pins)
 }
 
-/// Enters the spots as pins, reports those that are refused, and answers how many were taken.
-fn enter<S: Space>(rt: &HostRuntime, net: &mut Net<S>, entries: &[Entry]) -> io::Result<u32> {
-    let mut pins: u32 = 0;
-    for entry in entries {
-        match net.pin(entry.spot) {
-            Ok(_) => pins = pins.saturating_add(1),
-            Err(fault) => print_left_out(rt, *entry, fault)?,
+/// A net that is routed: where its report is printed, and the allowance that it is built by.
+#[derive(Drop)]
+pub struct Route<'a, S: Space> {
+    pub rt: &'a HostRuntime,
+    pub net: Net<S>,
+    pub allowance: Allowance,
+}
+
+impl<'a, S: Space> Route<'a, S> {
+    // Kept: tried closures that take the net for the steps in which this and `joining` differ; the check states no bound with a net in it yet.
+    /// Routes the spots in a space that can only measure, and answers how many pins were routed: all that were taken, or none.
+    pub fn measuring(&mut self, entries: &[Entry]) -> io::Result<u32> {
+        let pins = self.enter(entries)?;
+        let built = self.build().map(|()| hooks(&mut self.net));
+        self.finish(built, pins)
+    }
+
+    /// Enters the spots as pins, reports those that are refused, and answers how many were taken.
+    fn enter(&mut self, entries: &[Entry]) -> io::Result<u32> {
+        let mut pins: u32 = 0;
+        for entry in entries {
+            match self.net.pin(entry.spot) {
+                Ok(_) => pins = pins.saturating_add(1),
+                Err(fault) => print_left_out(self.rt, *entry, fault)?,
+            }
+        }
+        print_figure(self.rt, "pins", u64::from(pins))?;
+        Ok(pins)
+    }
+
+    /// Sets the allowance, grows the spanning seed of the pins and builds the straight tree.
+    fn build(&mut self) -> Result<(), Stop> {
+        self.net
+            .allow(self.allowance.p(), self.allowance.q())
+            .map_err(|fault| Stop::Refused("allowance", fault))?;
+        done(self.rt, "spanning seed", self.net.span())?;
+        done(self.rt, "straight tree", self.net.straight())
+    }
+
+    /// Prints the refusal, where there is one, else the refined tree; answers how many pins were routed.
+    fn finish(&self, built: Result<Refined, Stop>, pins: u32) -> io::Result<u32> {
+        match built {
+            Ok(refined) => {
+                self.print_tree(refined)?;
+                Ok(pins)
+            }
+            Err(Stop::Refused(name, fault)) => {
+                print_refusal(self.rt, name, fault)?;
+                Ok(0)
+            }
+            Err(Stop::Print(error)) => Err(error),
         }
     }
-    print_figure(rt, "pins", u64::from(pins))?;
-    Ok(pins)
+
+    /// Prints what refining did, the worst sink and the rows of the tree.
+    fn print_tree(&self, refined: Refined) -> io::Result<()> {
+        print_figure(self.rt, "refined tree", wire(&self.net))?;
+        print_refined(self.rt, refined)?;
+        self.print_worst()?;
+        print_rows(self.rt, &self.net)
+    }
+
+    /// Prints the worst sink with its figure, and the greatest figure that the allowance leaves, both in thousandths.
+    fn print_worst(&self) -> io::Result<()> {
+        match self.net.worst() {
+            Ok(Worst { pin, figure }) => {
+                let most = most_allowed(self.allowance);
+                println!(self.rt;
+                    "  worst sink      {figure:>12}  thousandths of the direct distance at pin {pin}, {most} allowed"
+                )
+            }
+            Err(fault) => print_refusal(self.rt, "worst sink", fault),
+        }
+    }
+}
+
+impl<'a, S: Joining> Route<'a, S> {
+    /// Routes the spots in a space that can join wires too, and answers how many pins were routed: all that were taken, or none.
+    pub fn joining(&mut self, entries: &[Entry]) -> io::Result<u32> {
+        let pins = self.enter(entries)?;
+        let built = self
+            .build_joined()
+            .map(|()| hooks_and_shares(&mut self.net));
+        self.finish(built, pins)
+    }
+
+    /// Builds the joined tree in place of the straight one.
+    fn build_joined(&mut self) -> Result<(), Stop> {
+        self.build()?;
+        done(self.rt, "joined tree", self.net.joined())
+    }
 }
 
 /// Prints that the net refused a spot as a pin.
 fn print_left_out(rt: &HostRuntime, entry: Entry, fault: Fault) -> io::Result<()> {
-    let line = entry.line;
-    let x = entry.spot.x;
-    let y = entry.spot.y;
-    let level = entry.spot.level;
+    let Entry { line, spot } = entry;
     let refusal = Refusal(fault);
-    println!(rt; "  line {line}: {x},{y},{level} {refusal}")
+    println!(rt; "  line {line}: {spot} {refusal}")
 }
 
-/// Prints a figure with its name.
-fn print_figure(rt: &HostRuntime, name: &str, figure: u64) -> io::Result<()> {
-    println!(rt; "  {name:<15} {figure:>12}")
-}
-
-/// Prints a refusal in place of a figure.
-fn print_refusal(rt: &HostRuntime, name: &str, fault: Fault) -> io::Result<()> {
-    let refusal = Refusal(fault);
-    println!(rt; "  {name:<15} {refusal}")
-}
-
-/// Prints what a call answered, the wire or the refusal; answers whether it was done.
-fn done(rt: &HostRuntime, name: &str, answer: Result<u64, Fault>) -> io::Result<bool>
-    ensures { IfOk result (λ b. b ≡ is_ok answer) }
+/// Prints the wire that a call answered.
+fn done(rt: &HostRuntime, name: &'static str, answer: Result<u64, Fault>) -> Result<(), Stop>
+    ensures { IfOk result (λ u. is_ok answer ≡ true) }
 {
-    match answer {
-        Ok(wire) => print_figure(rt, name, wire)?,
-        Err(fault) => print_refusal(rt, name, fault)?,
-    }
-    Ok(answer.is_ok())
-}
-
-/// Sets the allowance, grows the spanning seed of the pins and builds the straight tree; answers whether all of it was done.
-fn build<S: Space>(rt: &HostRuntime, net: &mut Net<S>, allowance: Allowance) -> io::Result<bool> {
-    if let Err(fault) = net.allow(allowance.p(), allowance.q()) {
-        return done(rt, "allowance", Err(fault));
-    }
-    if !done(rt, "spanning seed", net.span())? {
-        return Ok(false);
-    }
-    done(rt, "straight tree", net.straight())
-}
-
-/// Prints what refining did, the worst sink and the rows of the tree.
-fn finish<S: Space>(
-    rt: &HostRuntime,
-    net: &Net<S>,
-    refined: Refined,
-    allowance: Allowance,
-) -> io::Result<()> {
-    print_figure(rt, "refined tree", wire(net))?;
-    print_refined(rt, refined)?;
-    print_worst(rt, net, allowance)?;
-    print_rows(rt, net)
+    let wire = answer.map_err(|fault| Stop::Refused(name, fault))?;
+    print_figure(rt, name, wire)?;
+    Ok(())
 }
 
 fn print_refined(rt: &HostRuntime, refined: Refined) -> io::Result<()> {
-    print_figure(rt, "saved", refined.saved)?;
-    print_figure(rt, "hooks", refined.hooks)?;
-    print_figure(rt, "shares", refined.shares)?;
-    if refined.refused {
+    let Refined {
+        hooks,
+        shares,
+        refused,
+    } = refined;
+    print_figure(rt, "saved", hooks.saved.saturating_add(shares.saved))?;
+    print_figure(rt, "hooks", hooks.moves)?;
+    print_figure(rt, "shares", shares.moves)?;
+    if refused {
         return Ok(());
     }
     print_figure(rt, "stopped at turn", u64::from(TURNS))
-}
-
-/// Prints the worst sink with its figure, and the greatest figure that the allowance leaves, both in thousandths.
-fn print_worst<S: Space>(rt: &HostRuntime, net: &Net<S>, allowance: Allowance) -> io::Result<()> {
-    match net.worst() {
-        Ok(worst) => {
-            let pin = worst.pin;
-            let figure = worst.figure;
-            let most = most_allowed(allowance);
-            println!(rt;
-                "  worst sink      {figure:>12}  thousandths of the direct distance at pin {pin}, {most} allowed"
-            )
-        }
-        Err(fault) => print_refusal(rt, "worst sink", fault),
-    }
 }
 
 /// What a path may be in thousandths of the direct distance, the fraction dropped.

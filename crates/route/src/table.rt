@@ -1,29 +1,21 @@
 // The rows of a tree.
 use net::Net;
-use space::Space;
+use space::{Space, Spot};
 use std::io;
 use tree::ROWS;
 use tree_laws::Row;
 
 /// The wire of the net's tree: the sum of its rows' lengths, 0 where there is no tree.
 pub fn wire<S: Space>(net: &Net<S>) -> u64 {
-    let mut wire: u64 = 0;
-    for k in 0..ROWS {
-        let Ok(row) = net.row(k) else {
-            return wire;
-        };
-        wire = wire.saturating_add(row.length);
-    }
-    wire
+    (0..ROWS)
+        .map_while(|k| net.row(k).ok())
+        .fold(0, |wire: u64, row| wire.saturating_add(row.length))
 }
 
 /// A heading, and a line for each row of the net's tree.
 pub fn print_rows<S: Space>(rt: &HostRuntime, net: &Net<S>) -> io::Result<()> {
     rt.println("    row  parent         x         y  level     length")?;
-    for k in 0..ROWS {
-        let Ok(row) = net.row(k) else {
-            return Ok(());
-        };
+    for (k, row) in (0..ROWS).map_while(|k| net.row(k).ok()).enumerate() {
         print_row(rt, k, row)?;
     }
     Ok(())
@@ -31,10 +23,11 @@ pub fn print_rows<S: Space>(rt: &HostRuntime, net: &Net<S>) -> io::Result<()> {
 
 /// A row's number, its parent, its spot and its length.
 fn print_row(rt: &HostRuntime, number: usize, row: Row) -> io::Result<()> {
-    let parent = row.parent;
-    let x = row.spot.x;
-    let y = row.spot.y;
-    let level = row.spot.level;
-    let length = row.length;
+    let Row {
+        parent,
+        spot,
+        length,
+    } = row;
+    let Spot { x, y, level } = spot;
     println!(rt; "  {number:>5}  {parent:>6}  {x:>8}  {y:>8}  {level:>5}  {length:>9}")
 }
