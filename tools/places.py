@@ -69,26 +69,15 @@ def found(kind):
         yield label, hits
 
 
-def repeated_clauses():
-    """Required facts that stand in three functions or more of one crate."""
+def repeated(pattern):
+    """What the pattern finds in clauses, where it stands in three places or more of one crate, whatever the moment of each name."""
     seen = collections.defaultdict(list)
     for path, text in sources():
         crate = path.split("/")[1]
-        for m in re.finditer(r"^[ \t]*requires(?: \w+)? \{ (.*) \}$", text, flags=re.M):
-            fact = re.sub(r"\bself\b|\bold\b|\bnow\b|\bnew\b|[.\s]", "", m.group(1))
+        for m in re.finditer(pattern, text, flags=re.M):
+            fact = re.sub(r"\b(?:self|net|old|now|new)\b|[.\s]", "", m.group(1))
             seen[crate, fact].append((path, text.count("\n", 0, m.start()) + 1, m.group(1)))
-    return [v for v in seen.values() if len(v) > 2]
-
-
-def repeated_premises():
-    """Premises before an arrow that stand in three promises or more of one crate."""
-    seen = collections.defaultdict(list)
-    for path, text in sources():
-        crate = path.split("/")[1]
-        for m in re.finditer(r"^[ \t]*ensures(?: \w+)? \{ (\w[^→{}]*?) → ", text, flags=re.M):
-            fact = re.sub(r"\bself\b|\bnet\b|\bold\b|\bnow\b|\bnew\b|[.\s]", "", m.group(1))
-            seen[crate, fact].append((path, text.count("\n", 0, m.start()) + 1, m.group(1)))
-    return [v for v in seen.values() if len(v) > 2]
+    return [hit for hits in seen.values() if len(hits) > 2 for hit in hits]
 
 
 def kept_rooms():
@@ -156,8 +145,8 @@ def main():
         rows = list(found(kind))
         if kind == 5:
             rows = [
-                ("a required fact in three functions", [h for v in repeated_clauses() for h in v]),
-                ("a premise in three promises", [h for v in repeated_premises() for h in v]),
+                ("a required fact in three functions", repeated(r"^[ \t]*requires(?: \w+)? \{ (.*) \}$")),
+                ("a premise in three promises", repeated(r"^[ \t]*ensures(?: \w+)? \{ (\w[^→{}]*?) → ")),
                 ("a promise that a list's memory stays", kept_rooms()),
                 ("parameters that travel together", travelling()),
             ]
