@@ -140,15 +140,16 @@ const SQUARE: [(JoinCall, Said); 5] = [
 ];
 
 // The net in the plane that the calls leave, once they answered so.
-fn net_of<const N: usize>(
+fn net_of(
     rt: &(impl Abort + AllocGlobal),
-    calls: [(JoinCall, Said); N],
+    calls: &[JoinCall],
+    expected: &[Said],
 ) -> Result<Net<Plane>, Fail> {
     let mut net = Net::new(rt.alloc(), Plane)?;
-    let mut answers = [NONE; N];
-    let made = run(&mut net, &calls.map(|(call, _)| call), &mut answers);
-    assert_eq!(rt; made, N);
-    check_answers(rt, &answers, &calls.map(|(_, said)| said), 0, 0);
+    let mut places = [NONE; 16];
+    let made = run(&mut net, calls, &mut places);
+    assert!(rt; made == calls.len() && made <= 16);
+    check_answers(rt, &places[0..made], expected, 0, 0);
     Ok(net)
 }
 
@@ -169,22 +170,50 @@ fn check_rows<S: Space>(
 
 #[test]
 fn fork(rt: HostRuntime) -> Result<(), Fail> {
-    check_rows(&rt, &net_of(&rt, FORK)?, &FORK_ROWS)
+    check_rows(
+        &rt,
+        &net_of(
+            &rt,
+            &FORK.map(|(call, _)| call),
+            &FORK.map(|(_, said)| said),
+        )?,
+        &FORK_ROWS,
+    )
 }
 
 #[test]
 fn corner(rt: HostRuntime) -> Result<(), Fail> {
-    check_rows(&rt, &net_of(&rt, CORNER)?, &CORNER_ROWS)
+    check_rows(
+        &rt,
+        &net_of(
+            &rt,
+            &CORNER.map(|(call, _)| call),
+            &CORNER.map(|(_, said)| said),
+        )?,
+        &CORNER_ROWS,
+    )
 }
 
 #[test]
 fn square(rt: HostRuntime) -> Result<(), Fail> {
-    check_rows(&rt, &net_of(&rt, SQUARE)?, &[])
+    check_rows(
+        &rt,
+        &net_of(
+            &rt,
+            &SQUARE.map(|(call, _)| call),
+            &SQUARE.map(|(_, said)| said),
+        )?,
+        &[],
+    )
 }
 
 #[test]
 fn shared(rt: HostRuntime) -> Result<(), Fail> {
-    let mut net = net_of(&rt, SHARED)?;
+    let mut net = net_of(
+        &rt,
+        &SHARED.map(|(call, _)| call),
+        &SHARED.map(|(_, said)| said),
+    )?;
     check_rows(&rt, &net, &SHARED_ROWS)?;
     check_standing(&rt, &mut net)?;
     check_rows(&rt, &net, &SHARED_ROWS)
