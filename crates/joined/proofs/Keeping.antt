@@ -1,7 +1,8 @@
 -- Members of a list that grows or shrinks. Assumes nothing.
-use Rattle.std.proofs.Common.{◌≡◌, ℕ, suc, ◌+◌, ◌<◌, ◌≤◌, Bool, true, false, cond, not, eqb, ◌⊎◌, List, [], ◌∷◌, length, get_or, take, filter, sym, refl, ap, subst, inl, inr, ⊎_elim, arith}
+use Rattle.std.proofs.Common.{◌≡◌, ℕ, suc, ◌+◌, ◌<◌, ◌≤◌, Bool, Decides, MatchBool, true, false, cond, not, eqb, ◌⊎◌, List, [], ◌∷◌, length, get_or, take, filter, sym, refl, ap, subst, inl, inr, ⊎_elim, arith}
 use Rattle.std.proofs.lemmas.List.{get_or_default, take_more}
-use Rattle.std.proofs.lemmas.Bool.{and_from, and_left, and_parts, and_right, cases_Bool, cond-false, cond-true, eq-eqb, eqb-false, ne_eqb, not_from_false, not_from_true, not-true}
+use Rattle.std.proofs.lemmas.Bool.{and_from, and_left, and_parts, and_right, both_ways, cases_Bool, cond-false, cond-true, eq-eqb, eqb-false, ne_eqb, not_from_false, not_from_true, not-true}
+use Rattle.std.specs.List.{AllWithin, HoldsAt}
 use Rattle.order.specs.Firsts.{Among}
 use Rattle.order.specs.Firsts.Among.{here, there}
 use Rattle.joined.specs.Joinings.{others}
@@ -84,3 +85,8 @@ others_not a b x e =
 pub among_empty : (xs : List ℕ) (x : ℕ) → Among x xs → length xs ≡ 0 → ⊥
 among_empty [] x m e = among_none m
 among_empty (y ∷ xs) x m e = omega arith
+
+-- whether each number of a list has P
+pub all_decided : (P : ℕ → Type 0) (xs : List ℕ) (r : Bool) → MatchBool r (AllWithin P xs 0 (length xs)) ((k : ℕ) × (k < length xs) × HoldsAt (λ x. P x → ⊥) xs k) → Decides r ((x : ℕ) → Among x xs → P x)
+all_decided P xs true a = (λ t x m. let k = among_place xs x m in subst P (sym k.2) (a k.0 0 (omega arith) k.1), λ f. refl)
+all_decided P xs false a = (λ t. absurd (both_ways false refl t), λ f. absurd (a.2 0 (f (get_or xs a.0 0) (among_here xs a.0 0 a.1))))

@@ -1,16 +1,13 @@
 -- Lists that rise. Assumes nothing.
-use Rattle.std.proofs.Common.{◌≡◌, ℕ, zero, suc, ◌+◌, ◌-◌, ◌<◌, ◌≤◌, List, length, get_or, sym, ap, ⊎_elim, add-one, arith}
-use Rattle.std.proofs.lemmas.Bool.{cases_lt}
+use Rattle.std.proofs.Common.{◌≡◌, ℕ, zero, suc, ◌+◌, ◌-◌, ◌<◌, ◌≤◌, Bool, true, false, List, length, get_or, sym, refl, ap, ⊎_elim, add-one, nat_lt, Decides, arith}
+use Rattle.std.specs.List.{IsAllAdjacentAnswer}
+use Rattle.joined.specs.Joinings.{Rising}
+use Rattle.std.proofs.lemmas.Bool.{both_ways, cases_lt, ltb-false, ltb-true}
 
-pub rising_next : (xs : List ℕ) (i : ℕ) → ((k : ℕ) → k + 1 < i → get_or xs k 0 < get_or xs (k + 1) 0) → (0 < i → get_or xs (i - 1) 0 < get_or xs i 0) → (k : ℕ) → k + 1 < i + 1 → get_or xs k 0 < get_or xs (k + 1) 0
-rising_next xs i f g k h =
-    ⊎_elim
-    (λ (l : k + 1 < i). f k l)
-    (λ (l : i ≤ k + 1).
-    let e : i ≡ k + 1 = omega arith in
-    let o : i - 1 ≡ k = omega arith in
-    omega (arith, g (omega arith), ap (λ n. get_or xs n 0) e, ap (λ n. get_or xs n 0) o))
-    (cases_lt (k + 1) i)
+-- whether a list rises, by each number and the next
+pub rising_decided : (xs : List ℕ) (r : Bool) → IsAllAdjacentAnswer (λ x y b. b ≡ nat_lt x y) xs r → Decides r (Rising xs)
+rising_decided xs true a = (λ t i h. ltb-true (get_or xs i 0) (get_or xs (i + 1) 0) (sym (a i 0 h)), λ f. refl)
+rising_decided xs false a = (λ t. absurd (both_ways false refl t), λ f. absurd (omega (arith, f a.0 a.1, ltb-false (get_or xs a.0 0) (get_or xs (a.0 + 1) 0) (sym (a.2 0)))))
 
 -- a list of numbers from 1 on that rises has at each place more than the place's number
 least : (xs : List ℕ) → ((k : ℕ) → k + 1 < length xs → get_or xs k 0 < get_or xs (k + 1) 0) → ((k : ℕ) → k < length xs → 0 < get_or xs k 0) → (i : ℕ) → i < length xs → i < get_or xs i 0

@@ -17,10 +17,18 @@ use Rattle.joined.specs.Pairs.{Firsts}
 
 -- ---- what can be joined
 
+-- Each number is below the next.
+abbrev pub Rising : List ℕ → Type 0
+Rising group = (i : ℕ) → i + 1 < length group → slice_index group i < slice_index group (i + 1)
+
+-- Each member is a row on the driver.
+abbrev pub AllHang : List Row → List ℕ → Type 0
+AllHang rows group = (g : ℕ) → Among g group → Child rows 0 g
+
 -- The members are rows on the driver, in rising order, and there is room for a new row for each.
 pub record Joinable (rows : List Row) (group : List ℕ) : Type 0 where
-  pub rising : (i : ℕ) → i + 1 < length group → slice_index group i < slice_index group (i + 1)
-  pub hung : (g : ℕ) → Among g group → Child rows 0 g
+  pub rising : Rising group
+  pub hung : AllHang rows group
   pub room : length rows + length group ≤ 768
 
 -- Asked whether the members can be joined, the answer is r.

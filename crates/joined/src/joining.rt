@@ -1,9 +1,8 @@
-ghost use Rattle.std.specs.Prelude.{◌≡◌, ◌≤◌, length, vec_capacity, filter};
-ghost use Rattle.build_laws.specs.Joining.{Joins};
+ghost use Rattle.std.specs.Prelude.{◌≡◌, ◌≤◌, length, vec_capacity, filter, Decides};
 ghost use Rattle.tree.specs.Hooks.{reach_of};
 ghost use Rattle.tree.specs.Tables.{rows_of};
 ghost use Rattle.share.specs.Shares.{join_of};
-ghost use Rattle.joined.specs.Joinings.{Asked, Joinable, JoinedBy, Standing, Stepped, others};
+ghost use Rattle.joined.specs.Joinings.{AllHang, Asked, Joinable, JoinedBy, Rising, Standing, Stepped, others};
 
 use crate::pair::Pair;
 use crate::partners::{Change, Group};
@@ -22,21 +21,25 @@ pub struct Joiner {
     ghost kept: { 768 ≤ vec_capacity partners },
 }
 
+/// Whether the members rise.
+fn rises(members: &[usize]) -> bool
+    ensures { Decides result (Rising members.now) }
+{
+    members.is_sorted_by(|a, b| a < b)
+}
+
+/// Whether each member is a row that hangs on the driver.
+fn all_hang(table: &Table, members: &[usize]) -> bool
+    ensures { Decides result (AllHang (rows_of table.now) members.now) }
+{
+    members.iter().all(|&member| hangs(table, 0, member))
+}
+
 /// Whether the members are rows that hang on the driver, in rising order, with room for a new row for each.
 fn joinable(table: &Table, members: &[usize]) -> bool
     ensures { Asked (rows_of table.now) members.now result }
 {
-    if members.len() > ROWS - table.len() {
-        return false;
-    }
-    let mut last = 0;
-    for &member in members {
-        if !hangs(table, 0, member) || member <= last {
-            return false;
-        }
-        last = member;
-    }
-    true
+    members.len() <= ROWS - table.len() && rises(members) && all_hang(table, members)
 }
 
 /// Takes `a` and `b` out of the group.
@@ -85,7 +88,7 @@ impl Joiner {
     }
 
     /// Joins the first pair of all, and answers whether there is one whose meet is not the driver's own spot.
-    // Kept: a plain yes or no, which the loop in `run` asks; an `Option<()>` would say no more.
+    // Kept: a plain yes or no, which the loop in `join` asks; an `Option<()>` would say no more.
     fn step<S: Joining>(&mut self, space: &S, table: &mut Table) -> bool
         requires { Standing (reach_of S.Space space.now) (join_of S.Space S.Joining.own space.now) (rows_of table.old) self.old.group.items self.old.partners.items }
         ensures { Stepped (reach_of S.Space space.now) (join_of S.Space S.Joining.own space.now) (rows_of table.old) self.old.group.items result (rows_of table.new) self.new.group.items self.new.partners.items }
@@ -111,19 +114,6 @@ impl Joiner {
         true
     }
 
-    /// Joins pair after pair, as long as there is one and for at most so many turns as the group has members.
-    fn run<S: Joining>(&mut self, space: &S, table: &mut Table, turns: usize)
-        requires standing { Standing (reach_of S.Space space.now) (join_of S.Space S.Joining.own space.now) (rows_of table.old) self.old.group.items self.old.partners.items }
-        requires turns { length self.old.group.items ≤ turns }
-        ensures { Joins (reach_of S.Space space.now) (join_of S.Space S.Joining.own space.now) (rows_of table.old) self.old.group.items (rows_of table.new) }
-    {
-        for _ in 0..turns {
-            if !self.step(space, table) {
-                return;
-            }
-        }
-    }
-
     /// Joins the members, pair after pair, and answers the wire: the two whose meet, seen from the driver, is farthest from it, of equally
     /// far ones those with the lowest smaller number, then the lowest larger one; the meet becomes a new row on the driver and the parent of
     /// both, and takes their place. Nothing, with the table as it was, where the members are not rows that hang on the driver in rising order
@@ -140,7 +130,11 @@ impl Joiner {
             return None;
         }
         self.begin(space, table, members);
-        self.run(space, table, members.len());
+        for _ in 0..members.len() {
+            if !self.step(space, table) {
+                break;
+            }
+        }
         Some(table.wire())
     }
 }

@@ -1,6 +1,6 @@
 -- The best of the candidates that have a property, and which candidates decide it. `lt x y` says that x comes before y. Assumes nothing.
 use Rattle.std.specs.Prelude.{◌≡◌, ℕ, suc, Bool, false, List, [], ◌∷◌, ◌++◌, Some, None, Option}
-use Rattle.order.specs.Firsts.{Among}
+use Rattle.order.specs.Firsts.{Among, FirstOf}
 
 -- The best of the candidates that have P: nothing where there is none, else one that no other comes before.
 abbrev pub BestOf : {X : Type 0} → (X → X → Bool) → (X → Type 0) → Option X → Type 0
@@ -17,3 +17,7 @@ pub data Found {X : Type 0} (Gives : ℕ → Option X → Type 0) : (n : ℕ) �
   start : Found Gives 0 []
   skips : {n : ℕ} {xs : List X} → Found Gives n xs → Gives n None → Found Gives (suc n) xs
   finds : {n : ℕ} {xs : List X} {x : X} → Found Gives n xs → Gives n (Some x) → Found Gives (suc n) (xs ++ x ∷ [])
+
+-- The first of what a search over the numbers below n found.
+abbrev pub FirstFound : {X : Type 0} → (X → X → Bool) → (ℕ → Option X → Type 0) → ℕ → Option X → Type 0
+FirstFound {X} lt Gives n r = (xs : List X) × Found Gives n xs × FirstOf lt xs r

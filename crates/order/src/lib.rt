@@ -6,4 +6,4 @@ mod link;
 mod search;
 
 pub use link::Link;
-pub use search::{Rank, first, first_found};
+pub use search::{Rank, first, first_found, first_of_pairs};

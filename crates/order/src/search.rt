@@ -1,5 +1,5 @@
 ghost use Rattle.std.specs.Prelude.{◌≡◌, ℕ, ◌<◌, Bool, List, slice_get};
-ghost use Rattle.order.specs.Bests.{Found};
+ghost use Rattle.order.specs.Bests.{FirstFound};
 ghost use Rattle.order.specs.Firsts.{Covers, FirstOf, Winners, together};
 ghost use Rattle.order.specs.Orders.{Order};
 
@@ -16,7 +16,7 @@ pub trait Rank: Sized {
 /// The first of the candidates that `find` gives for the numbers below `n`; `None` exactly where it gives none.
 pub fn first_found<C: Rank + Copy, F: Fn(usize) -> Option<C>>(n: usize, find: F) -> Option<C>
     requires { (i : ℕ) → i < n → F.pre find i }
-    ensures { (xs : List C) × Found (F.post find) n xs × FirstOf C.Rank.before xs result }
+    ensures { FirstFound C.Rank.before (F.post find) n result }
 {
     let mut first: Option<C> = None;
     for i in 0..n {
@@ -42,5 +42,24 @@ pub fn first<C: Rank + Copy>(candidates: &[C]) -> Option<C>
         |i|
             ensures { result ≡ slice_get candidates.entry.now i }
         { candidates.get(i).copied() },
+    )
+}
+
+/// The first of the candidates that `find` gives for a number below `n` and one below `m`; `None` exactly where it gives none. It is found
+/// in two stages: the first for each number below `n`, then the first of those.
+pub fn first_of_pairs<C: Rank + Copy, F: Fn(usize, usize) -> Option<C>>(
+    n: usize,
+    m: usize,
+    find: F,
+) -> Option<C>
+    requires { F.IsAlwaysCallable find }
+    ensures { FirstFound C.Rank.before (λ i. FirstFound C.Rank.before (F.post find i) m) n result }
+{
+    first_found(
+        n,
+        |i|
+            requires { F.IsAlwaysCallable find }
+            ensures { FirstFound C.Rank.before (F.post find i) m result }
+        { first_found(m, |j| find(i, j)) },
     )
 }

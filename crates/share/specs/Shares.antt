@@ -114,11 +114,3 @@ Parted d j t₀ v a b (Some k) t = Parts (rows_of t₀) v a b × (k ≡ length (
 -- A move of a and b.
 abbrev pub ShareAt : List Row → (Spot → Spot → ℕ) → (Spot → Spot → Spot → Spot) → (a b : ℕ) → Share → Type 0
 ShareAt rows d j a b m = ShareMove rows d j m × (m.a ≡ a) × (m.b ≡ b)
-
--- A move of a with a row below i.
-abbrev pub ShareOf : List Row → (Spot → Spot → ℕ) → (Spot → Spot → Spot → Spot) → (a i : ℕ) → Share → Type 0
-ShareOf rows d j a i m = ShareMove rows d j m × (m.a ≡ a) × (m.b < i)
-
--- A move of a row below i with another.
-abbrev pub ShareBelow : List Row → (Spot → Spot → ℕ) → (Spot → Spot → Spot → Spot) → (i : ℕ) → Share → Type 0
-ShareBelow rows d j i m = ShareMove rows d j m × (m.a < i)

@@ -1,12 +1,12 @@
-ghost use Rattle.std.specs.Prelude.{◌≡◌, ◌<◌, length};
+ghost use Rattle.std.specs.Prelude.{◌≡◌};
 ghost use Rattle.order.specs.Bests.{BestOf};
 ghost use Rattle.tree.specs.Hooks.{reach_of};
 ghost use Rattle.tree.specs.Tables.{rows_of};
-ghost use Rattle.share.specs.Shares.{ShareAt, ShareMove, ShareOf, Shared, join_of, share_before};
+ghost use Rattle.share.specs.Shares.{ShareAt, ShareMove, Shared, join_of, share_before};
 
 use crate::parting::{join, part};
 use crate::share::Share;
-use order::first_found;
+use order::first_of_pairs;
 use space::Joining;
 use tree::{Table, reach};
 
@@ -29,8 +29,6 @@ struct Search<'a, S: Joining> {
 impl<'a, S: Joining> Search<'a, S> {
     /// The move of the rows `a` and `b`, where it is one.
     fn weigh(&self, a: usize, b: usize) -> Option<Share>
-        requires first { a < length (rows_of self.now.table.now) }
-        requires second { b < length (rows_of self.now.table.now) }
         ensures { BestOf share_before (ShareAt (rows_of self.now.table.now) (reach_of S.Space self.now.space.now) (join_of S.Space S.Joining.own self.now.space.now) a b) result }
     {
         if a == 0 {
@@ -39,8 +37,8 @@ impl<'a, S: Joining> Search<'a, S> {
         if b <= a {
             return None;
         }
-        let one = self.table.at(a);
-        let two = self.table.at(b);
+        let one = self.table.row(a)?;
+        let two = self.table.row(b)?;
         let v = one.parent;
         if two.parent != v {
             return None;
@@ -54,19 +52,12 @@ impl<'a, S: Joining> Search<'a, S> {
         Some(Share { saving, v, a, b })
     }
 
-    /// The first of the moves of the row `a` with another.
-    fn first_of(&self, a: usize) -> Option<Share>
-        requires { a < length (rows_of self.now.table.now) }
-        ensures { BestOf share_before (ShareOf (rows_of self.now.table.now) (reach_of S.Space self.now.space.now) (join_of S.Space S.Joining.own self.now.space.now) a (length (rows_of self.now.table.now))) result }
-    {
-        first_found(self.table.len(), |b| self.weigh(a, b))
-    }
-
     /// The first of all moves.
     fn best(&self) -> Option<Share>
         ensures { BestOf share_before (ShareMove (rows_of self.now.table.now) (reach_of S.Space self.now.space.now) (join_of S.Space S.Joining.own self.now.space.now)) result }
     {
-        first_found(self.table.len(), |a| self.first_of(a))
+        let rows = self.table.len();
+        first_of_pairs(rows, rows, |a, b| self.weigh(a, b))
     }
 }
 

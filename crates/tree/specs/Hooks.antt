@@ -75,11 +75,3 @@ Hooked G s t₀ (Some w) t =
 -- A move of v on u.
 abbrev pub MoveAt : List Row → (ℕ → ℕ → ℕ) → (v u : ℕ) → Hook → Type 0
 MoveAt rows d v u m = HookMove rows d m × (m.v ≡ v) × (m.u ≡ u)
-
--- A move of v on a row below i.
-abbrev pub MoveOf : List Row → (ℕ → ℕ → ℕ) → (v i : ℕ) → Hook → Type 0
-MoveOf rows d v i m = HookMove rows d m × (m.v ≡ v) × (m.u < i)
-
--- A move of a row below i.
-abbrev pub MoveBelow : List Row → (ℕ → ℕ → ℕ) → (i : ℕ) → Hook → Type 0
-MoveBelow rows d i m = HookMove rows d m × (m.v < i)

@@ -1,11 +1,11 @@
 ghost use Rattle.std.specs.Prelude.{◌≡◌, ◌<◌, ◌≤◌, length, vec_capacity};
 ghost use Rattle.order.specs.Bests.{BestOf};
-ghost use Rattle.tree.specs.Hooks.{HookMove, Hooked, Measured, MoveAt, MoveOf, apart, hook_before, reach_of};
+ghost use Rattle.tree.specs.Hooks.{HookMove, Hooked, Measured, MoveAt, apart, hook_before, reach_of};
 ghost use Rattle.tree.specs.Tables.{Paths, rows_of};
 
 use crate::hook::Hook;
 use crate::table::{ROWS, Table};
-use order::first_found;
+use order::first_of_pairs;
 use space::{LONGEST, Space, Spot};
 use std::alloc::{AllocError, Global};
 
@@ -36,12 +36,11 @@ struct Search<'a, S: Space> {
 impl<'a, S: Space> Search<'a, S> {
     /// The move that hangs `v` on `u`, where it is one.
     fn weigh(&self, v: usize, u: usize) -> Option<Hook>
-        requires row { v < length (rows_of self.now.table.now) }
-        requires parent { u < length (rows_of self.now.table.now) }
         ensures { BestOf hook_before (MoveAt (rows_of self.now.table.now) (apart S.Space self.now.space.now (rows_of self.now.table.now)) v u) result }
     {
-        let old = self.table.at(v);
-        let new = reach(self.space, self.table.at(u).spot, old.spot);
+        let old = self.table.row(v)?;
+        let parent = self.table.row(u)?;
+        let new = reach(self.space, parent.spot, old.spot);
         if new >= old.length {
             return None;
         }
@@ -55,19 +54,12 @@ impl<'a, S: Space> Search<'a, S> {
         Some(Hook { saving, v, u })
     }
 
-    /// The first of the moves of the row `v`.
-    fn first_of(&self, v: usize) -> Option<Hook>
-        requires { v < length (rows_of self.now.table.now) }
-        ensures { BestOf hook_before (MoveOf (rows_of self.now.table.now) (apart S.Space self.now.space.now (rows_of self.now.table.now)) v (length (rows_of self.now.table.now))) result }
-    {
-        first_found(self.table.len(), |u| self.weigh(v, u))
-    }
-
     /// The first of all moves.
     fn best(&self) -> Option<Hook>
         ensures { BestOf hook_before (HookMove (rows_of self.now.table.now) (apart S.Space self.now.space.now (rows_of self.now.table.now))) result }
     {
-        first_found(self.table.len(), |v| self.first_of(v))
+        let rows = self.table.len();
+        first_of_pairs(rows, rows, |v, u| self.weigh(v, u))
     }
 }
 

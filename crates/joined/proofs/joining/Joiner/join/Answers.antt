@@ -1,26 +1,47 @@
-use Rattle.std.proofs.Common.{ℕ, List, subst}
+use Rattle.std.proofs.Common.{◌≡◌, ℕ, List, length, vec_items, sym, ap, ◌∙◌, subst, arith}
 use Rattle.build_laws.specs.Joining.{Joins}
+use Rattle.build_laws.specs.Joining.Joins.{done}
 use Rattle.share.specs.Shares.{join_of}
+use Rattle.tree_laws.specs.declared.Row.{Row}
 use Rattle.tree_laws.proofs.Ways.{hung}
 use Rattle.tree.specs.Hooks.{reach_of}
 use Rattle.tree.specs.Tables.{rows_of}
+use Rattle.joined.proofs.Keeping.{among_empty}
 use Rattle.joined.proofs.Owning.{owned}
 use Rattle.joined.proofs.joining.Joiner.join.Goals as goal
+use Rattle.joined.proofs.joining.Joiner.join.Goals.{else-loop-test, then-loop-test+then-not-step}
+
+pub loop-init : goal.loop-init
+loop-init g c =
+    let d = reach_of g.S.Space c.args.space.now in
+    let j = join_of g.S.Space g.S.Joining c.args.space.now in
+    let e = c.begin.ensures.members in
+    (c.begin.ensures.standing, omega (arith, ap length e), λ end h. let P : List ℕ → Type 0 = λ xs. Joins d j (rows_of c.args.table.now) xs end in subst P e h)
 
 pub returns : goal.returns
 returns g c =
     let s = c.args.space.now in
     let t = c.args.table.now in
+    let d = reach_of g.S.Space s in
+    let j = join_of g.S.Space g.S.Joining s in
     let rows = rows_of t in
-    let after = rows_of c.run.new.table in
-    let group = c.args.members.now in
+    let after = rows_of c.loop-test.table in
+    let group = vec_items c.loop.self.group in
     let fits = c.if-not-joinable.ensures in
-    let P : List ℕ → Type 0 = λ xs. Joins (reach_of g.S.Space s) (join_of g.S.Space g.S.Joining s) rows xs after in
-    let joins = subst P c.begin.ensures.members c.run.ensures in
+    let P : List Row → Type 0 = λ xs. Joins d j rows c.args.members.now xs in
+    let end = c.loop.invariant.2 (rows_of c.loop.table) in
+    let all : P (rows_of c.loop.table) × (after ≡ rows_of c.loop.table) =
+    elim c.loop-test.branch [
+      | else-loop-test w ↦
+          (end (done (λ a b p. absurd (among_empty group a p.first (omega (arith, c.loop.invariant.1, w.loop-test.false))))), ap rows_of w.table-is)
+      | then-loop-test+then-not-step w ↦ (end (done w.if-not-step.ensures.1), ap rows_of w.table-is ∙ w.if-not-step.ensures.0)
+    ]
+    in
+    let joins = subst P (sym all.1) all.0 in
     record {
       joinable = fits;
       joins = joins;
       wire = c.wire.ensures;
-      tree = hung (c.run.new.table.tree);
-      own = owned g.S.Space g.S.Joining s (g.met.S.Space.metric s) (g.met.S.Joining.meets s) rows after group t.tree fits joins;
+      tree = hung (c.loop-test.table.tree);
+      own = owned g.S.Space g.S.Joining s (g.met.S.Space.metric s) (g.met.S.Joining.meets s) rows after c.args.members.now t.tree fits joins;
     }

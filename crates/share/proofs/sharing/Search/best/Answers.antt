@@ -1,8 +1,8 @@
-use Rattle.std.proofs.Common.{length, refl, arith, rules}
-use Rattle.order.proofs.Deciding.{found_best}
+use Rattle.std.proofs.Common.{refl, arith, rules}
+use Rattle.order.proofs.Deciding.{pairs_best}
 use Rattle.tree.specs.Hooks.{reach_of}
 use Rattle.tree.specs.Tables.{rows_of}
-use Rattle.share.specs.Shares.{ShareMove, ShareOf, join_of}
+use Rattle.share.specs.Shares.{ShareAt, ShareMove, join_of}
 use Rattle.share.specs.Moves.{share_order}
 use Rattle.share.proofs.sharing.Search.best.Goals as goal
 
@@ -11,8 +11,7 @@ returns g c =
     let rows = rows_of c.args.self.now.table.now in
     let d = reach_of g.S.Space c.args.self.now.space.now in
     let j = join_of g.S.Space g.S.Joining c.args.self.now.space.now in
-    let (_, found, first) = c.first_found.ensures in
-    found_best (λ a. ShareOf rows d j a (length rows)) (ShareMove rows d j) share_order c.first_found.result found first
-    (λ a m h q. q.0)
-    (λ m q. (m.a, omega (arith, q.first.row), (q, refl, q.second.row)))
-    (λ i r h p. search rules)
+    pairs_best (ShareAt rows d j) (ShareMove rows d j) share_order c.first_of_pairs.result c.first_of_pairs.ensures
+    (λ a b m q. q.0)
+    (λ m q. (m.a, m.b, omega (arith, q.first.row, c.len-rows.ensures), omega (arith, q.second.row, c.len-rows.ensures), (q, refl, refl)))
+    (λ a b r h k p. search rules)

@@ -1,6 +1,6 @@
-use Rattle.std.proofs.Common.{length, refl, arith, rules}
-use Rattle.order.proofs.Deciding.{found_best}
-use Rattle.tree.specs.Hooks.{HookMove, MoveOf, apart}
+use Rattle.std.proofs.Common.{refl, arith, rules}
+use Rattle.order.proofs.Deciding.{pairs_best}
+use Rattle.tree.specs.Hooks.{HookMove, MoveAt, apart}
 use Rattle.tree.specs.Tables.{rows_of}
 use Rattle.tree.specs.Moves.{hook_order}
 use Rattle.tree.proofs.refining.Search.best.Goals as goal
@@ -9,8 +9,7 @@ pub returns : goal.returns
 returns g c =
     let rows = rows_of c.args.self.now.table.now in
     let d = apart g.S.Space c.args.self.now.space.now rows in
-    let (_, found, first) = c.first_found.ensures in
-    found_best (λ v. MoveOf rows d v (length rows)) (HookMove rows d) hook_order c.first_found.result found first
-    (λ v m h q. q.0)
-    (λ m q. (m.v, omega (arith, q.hangs.row), (q, refl, q.hangs.parent)))
-    (λ v r h p. search rules)
+    pairs_best (MoveAt rows d) (HookMove rows d) hook_order c.first_of_pairs.result c.first_of_pairs.ensures
+    (λ v u m q. q.0)
+    (λ m q. (m.v, m.u, omega (arith, q.hangs.row, c.len-rows.ensures), omega (arith, q.hangs.parent, c.len-rows.ensures), (q, refl, refl)))
+    (λ v u r h k p. search rules)

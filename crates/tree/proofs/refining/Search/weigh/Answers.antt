@@ -1,4 +1,4 @@
-use Rattle.std.proofs.Common.{length, arith}
+use Rattle.std.proofs.Common.{◌<◌, length, arith, rules}
 use Rattle.tree_laws.proofs.Steps.{path_bound}
 use Rattle.tree.specs.Tables.{rows_of}
 use Rattle.tree.proofs.refining.Search.weigh.Goals as goal
@@ -6,4 +6,5 @@ use Rattle.tree.proofs.refining.Search.weigh.Goals as goal
 pub overflow_add-self : goal.overflow_add-self
 overflow_add-self g c =
     let t = c.args.self.now.table.now in
-    omega (arith, c.args.self.now.known.paths c.args.u c.requires.parent, path_bound (rows_of t) 100000000 t.lengths (length (rows_of t)) c.args.u, t.few, c.reach-new.ensures.bound)
+    let h : c.args.u < length (rows_of t) = search rules in
+    omega (arith, c.args.self.now.known.paths c.args.u h, path_bound (rows_of t) 100000000 t.lengths (length (rows_of t)) c.args.u, t.few, c.reach-new.ensures.bound)
