@@ -1,2 +1,3 @@
 mod Calling
 mod Nets
+mod Rows

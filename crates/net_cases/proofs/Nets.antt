@@ -27,7 +27,7 @@ use Rattle.net_laws.specs.declared.call.Call.TheVariants.{Pin, Span, Straight}
 use Rattle.net_laws.specs.declared.call.JoinCall.TheVariants.{Wire, Joined}
 use Rattle.net_cases.specs.Calls.{Follows, answers, pins_from, refused, seed, seeded, step, tree}
 use Rattle.cases.specs.Table.{chain, corner, fork, origin, square, square_seed}
-use Rattle.net_cases.specs.Table.{Holds, corner_rows, fork_joined, fork_rows, on_lift, on_plane, square_broken, square_rows, table}
+use Rattle.net_cases.specs.Table.{Holds, corner_rows, fork_joined, fork_rows, on_lift, on_plane, square_broken, square_rows, nets as net_rows}
 use Rattle.net_cases.proofs.Calling.{joined_told, laid, laid_told, lawful, pins_told, span_told, straight_told, wide_told, with_pins}
 use Rattle.cases.proofs.Chain.{chain_grows, links}
 use Rattle.cases.proofs.Square.{spans}
@@ -174,6 +174,6 @@ lift_takes = pins_told (on_lift 6400000) fresh (origin ∷ []) [] (seed []) refl
 lift_refuses : Follows (on_lift 6400001) fresh (step (Wire (Pin origin)) (refused 1) ∷ []) (seed [])
 lift_refuses = wide_told (on_lift 6400001) fresh origin [] (seed []) refl (refl, refl)
 
-pub nets : AllByRecursion Holds table
+pub nets : AllByRecursion Holds net_rows
 unfolding walk
 nets = (corner_straight, (fork_straight, (fork_together, (lift_takes, (lift_refuses, (square_straight 2 1 square_rows refl refl refl, (square_straight 199 100 square_broken refl refl refl, (square_span, tt))))))))

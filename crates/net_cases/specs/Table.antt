@@ -1,5 +1,6 @@
--- The worked nets, as one table. Each row says what a new net answers to the calls that are made on it. Assumes nothing.
-use Rattle.std.specs.Prelude.{ℕ, List, [], ◌∷◌, ◌++◌, pos, negsuc}
+-- The worked cases of every layer, as one table. A row says what a layer below the net answers, or what a new net answers to the calls that are
+-- made on it. Assumes nothing.
+use Rattle.std.specs.Prelude.{ℕ, List, [], ◌∷◌, ◌++◌, map, pos, negsuc}
 use Rattle.space.specs.declared.spot.Spot.{Spot}
 use Rattle.space.specs.contracts.plane.PlaneJoining.TheImpl as planeJoining
 use Rattle.space.specs.contracts.plane.PlaneSpace.TheImpl as planeSpace
@@ -9,6 +10,7 @@ use Rattle.net_laws.specs.States.{fresh}
 use Rattle.net_laws.specs.Worlds.{joining, wiring}
 use Rattle.net_laws.specs.declared.call.Call.TheVariants.{Pin, Span, Straight}
 use Rattle.net_laws.specs.declared.call.JoinCall.TheVariants.{Wire, Joined}
+use Rattle.cases.specs.Table.{Fact as Below, Holds as HoldsBelow, table as below}
 use Rattle.cases.specs.Table.{at, corner, fork, lift_ghosts, origin, over_plane, plane, square, square_seed}
 use Rattle.net_cases.specs.Calls.{Ending, Follows, Step, answers, pins_from, refused, seed, seeded, step, tree}
 
@@ -21,10 +23,13 @@ on_lift price = wiring lift_ghosts (over_plane price)
 
 -- A row of the table.
 pub data Fact : Type 0 where
+  -- a space, the spanning seed or the walk answers so
+  layer_answers : (fact : Below) → Fact
   -- a new net in that space, asked by these calls in this order, answers so to each, and this is left
   net_answers : (W : World) (steps : List Step) (left : Ending) → Fact
 
 abbrev pub Holds : Fact → Type 0
+Holds (layer_answers fact) = HoldsBelow fact
 Holds (net_answers W steps left) = Follows W fresh steps left
 
 abbrev pub row : (parent : ℕ) → Spot → (length : ℕ) → Row
@@ -56,8 +61,9 @@ abbrev pub square_broken : List Row
 square_broken =
     row 0 origin 0 ∷ (row 0 (at (pos 6) (pos 0) (pos 0)) 6 ∷ (row 1 (at (pos 6) (pos 6) (pos 0)) 6 ∷ (row 0 (at (pos 0) (pos 6) (pos 0)) 6 ∷ [])))
 
-abbrev pub table : List Fact
-table =
+-- The rows about a net's calls.
+abbrev pub nets : List Fact
+nets =
     net_answers on_plane (seeded corner 0 1 (10 ∷ (5 ∷ [])) (step (Wire Straight) (answers 10) ∷ [])) (tree corner_rows)
     ∷ (net_answers on_plane (seeded fork 0 1 (6 ∷ (13 ∷ (3 ∷ []))) (step (Wire Straight) (answers 19) ∷ [])) (tree fork_rows)
     ∷ (net_answers on_plane (seeded fork 0 1 (6 ∷ (13 ∷ (3 ∷ []))) (step Joined (answers 14) ∷ [])) (tree fork_joined)
@@ -67,3 +73,7 @@ table =
     ∷ (net_answers on_plane (seeded square 199 100 (6 ∷ (6 ∷ (6 ∷ []))) (step (Wire Straight) (answers 18) ∷ [])) (tree square_broken)
     ∷ (net_answers on_plane (pins_from 0 square ++ step (Wire Span) (answers 18) ∷ []) (seed square_seed)
     ∷ [])))))))
+
+-- Every row: those of the layers below, then those about a net's calls.
+abbrev pub table : List Fact
+table = map layer_answers below ++ nets
