@@ -15,9 +15,9 @@ rows_of t = vec_items t.rows
 abbrev pub alone : Spot → List Row
 alone z = record { parent = 0; spot = z; length = 0 } ∷ []
 
--- The numbers are the paths of the rows.
+-- The first numbers are the paths of the rows.
 pub record Paths (rows : List Row) (ps : List ℕ) : Type 0 where
-  pub count : length ps ≡ length rows
+  pub room : length rows ≤ length ps
   pub paths : (k : ℕ) → k < length rows → slice_index ps k ≡ path_length rows k
 
 -- There is room for one more row, and it can hang on u at length l.

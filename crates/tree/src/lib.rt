@@ -7,6 +7,6 @@ mod refining;
 mod table;
 
 pub use hook::Hook;
-pub use refining::{Refiner, reach};
+pub use refining::{hook_best, reach};
 pub use space::LONGEST;
 pub use table::{ROWS, Refusal, Table};

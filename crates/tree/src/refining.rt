@@ -1,4 +1,4 @@
-ghost use Rattle.std.specs.Prelude.{◌≡◌, ◌<◌, ◌≤◌, length, vec_capacity};
+ghost use Rattle.std.specs.Prelude.{◌≡◌, ◌≤◌};
 ghost use Rattle.order.specs.Bests.{BestOf};
 ghost use Rattle.tree.specs.Hooks.{HookMove, Hooked, Measured, MoveAt, apart, hook_before, reach_of};
 ghost use Rattle.tree.specs.Tables.{Paths, rows_of};
@@ -7,14 +7,6 @@ use crate::hook::Hook;
 use crate::table::{ROWS, Table};
 use order::first_of_pairs;
 use space::{LONGEST, Space, Spot};
-use std::alloc::{AllocError, Global};
-
-/// The memory for the paths of the rows, reserved once.
-#[derive(Drop)]
-pub struct Refiner {
-    paths: Vec<u64>,
-    ghost long: { 768 ≤ vec_capacity paths },
-}
 
 /// The distance of two spots, at most `LONGEST`; 0 where there is none.
 pub fn reach<S: Space>(space: &S, a: Spot, b: Spot) -> u64
@@ -29,8 +21,8 @@ pub fn reach<S: Space>(space: &S, a: Spot, b: Spot) -> u64
 struct Search<'a, S: Space> {
     space: &'a S,
     table: &'a Table,
-    paths: &'a [u64],
-    ghost known: { Paths (rows_of table.now) paths.now },
+    paths: [u64; ROWS],
+    ghost known: { Paths (rows_of table.now) paths },
 }
 
 impl<'a, S: Space> Search<'a, S> {
@@ -63,35 +55,18 @@ impl<'a, S: Space> Search<'a, S> {
     }
 }
 
-impl Refiner {
-    /// Room for the paths of as many rows as a table can have.
-    pub fn new(heap: Global) -> Result<Refiner, AllocError> {
-        let paths = Vec::with_capacity(heap, ROWS)?;
-        Ok(Refiner { paths })
-    }
-
-    /// The best hook move of the table; nothing where no move saves 1 or more.
-    fn find<S: Space>(&mut self, space: &S, table: &Table) -> Option<Hook>
-        ensures { BestOf hook_before (HookMove (rows_of table.now) (apart S.Space space.now (rows_of table.now))) result }
-    {
-        table.paths(&mut self.paths);
-        let paths = self.paths.as_slice();
-        let search = Search {
-            space,
-            table,
-            paths,
-        };
-        search.best()
-    }
-
-    /// Makes the best hook move and answers what it saves; nothing, with the table as it was, where no move saves 1 or more.
-    pub fn hook<S: Space>(&mut self, space: &S, table: &mut Table) -> Option<u64>
-        ensures answer { Hooked S.Space space.now table.old result table.new }
-        ensures again { Measured S.Space space.now (rows_of table.old) → Measured S.Space space.now (rows_of table.new) }
-    {
-        let hook = self.find(space, table)?;
-        let length = table.at(hook.v).length - hook.saving;
-        table.hang(hook.v, hook.u, length).ok()?;
-        Some(hook.saving)
-    }
+/// Makes the best hook move of the table and answers what it saves; nothing, with the table as it was, where no move saves 1 or more.
+pub fn hook_best<S: Space>(space: &S, table: &mut Table) -> Option<u64>
+    ensures answer { Hooked S.Space space.now table.old result table.new }
+    ensures again { Measured S.Space space.now (rows_of table.old) → Measured S.Space space.now (rows_of table.new) }
+{
+    let search = Search {
+        space,
+        table: &*table,
+        paths: table.paths(),
+    };
+    let hook = search.best()?;
+    let length = table.at(hook.v).length - hook.saving;
+    table.hang(hook.v, hook.u, length).ok()?;
+    Some(hook.saving)
 }

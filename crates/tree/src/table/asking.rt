@@ -1,9 +1,10 @@
-ghost use Rattle.std.specs.Prelude.{◌≡◌, ℕ, ◌<◌, ◌≤◌, length, vec_capacity, nat_lt};
+ghost use Rattle.std.specs.Prelude.{◌≡◌, ℕ, ◌<◌, ◌≤◌, length, nat_lt};
 ghost use Rattle.space.specs.Laws.{answered};
 ghost use Rattle.tree_laws.specs.Trees.{Hung, path_length, row_of, under, up, wire_of};
 ghost use Rattle.tree.specs.Tables.{Paths, rows_of};
 
-use super::Table;
+use super::{ROWS, Table};
+use std::array::from_fn;
 use tree_laws::Row;
 
 impl Table {
@@ -58,17 +59,11 @@ impl Table {
         (k < self.len()).then(|| self.path_of(k))
     }
 
-    /// The paths of all rows.
-    pub(crate) fn paths(&self, out: &mut Vec<u64>)
-        requires { 768 ≤ vec_capacity out.old }
-        ensures paths { Paths (rows_of self.now) out.new.items }
-        ensures room { vec_capacity out.new ≡ vec_capacity out.old }
+    /// The path of each row, and 0 for the numbers past the rows.
+    pub(crate) fn paths(&self) -> [u64; ROWS]
+        ensures { Paths (rows_of self.now) result }
     {
-        out.clear();
-        // Kept: `k` is the number of a row, which `path_of` takes, and `extend` may allocate (fixed memory is a rule of this engine).
-        for k in 0..self.len() {
-            out.push_reserved(self.path_of(k));
-        }
+        from_fn(|k| self.path(k).unwrap_or(0))
     }
 
     /// Whether `u` is `v` or hangs below it.

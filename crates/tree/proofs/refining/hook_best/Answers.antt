@@ -4,7 +4,7 @@ use Rattle.tree.specs.Hooks.{apart}
 use Rattle.tree.specs.Tables.{rows_of}
 use Rattle.tree.proofs.Hooking.{changed_hangs, saved}
 use Rattle.tree.proofs.Measured.{saved_again, saved_measured}
-use Rattle.tree.proofs.refining.Refiner.hook.Goals as goal
+use Rattle.tree.proofs.refining.hook_best.Goals as goal
 
 pub returns : goal.returns
 returns g c =
