@@ -35,7 +35,7 @@ module _ (d : Spot → Spot → ℕ) (m : Spot → Spot → Spot → Spot) where
   abbrev pub meet_group : List ℕ → (a b new : ℕ) → List ℕ
   meet_group group a b new = filter (λ x. not (x == a) && not (x == b)) group ++ new ∷ []
 
-  -- The rows become `after`: pair after pair is joined until at most one member is left or the farthest meet is the driver's own spot.
+  -- The rows become `after`: pair after pair is joined until at most one member is left or the farthest meet is 0 from the driver.
   pub data Joins : List Row → List ℕ → List Row → Type 0 where
     done : {rows : List Row} {group : List ℕ} → ((a b : ℕ) → PairOf group a b → far_of rows a b ≡ 0) → Joins rows group rows
     join : {rows after : List Row} {group : List ℕ} (a b : ℕ) → Farthest rows group a b → 0 < far_of rows a b → Joins (meet_row rows a b) (meet_group group a b (length rows)) after → Joins rows group after
