@@ -169,6 +169,7 @@ hung {rows} t k h =
     record {
       rungs = p.ways;
       way = p.way;
+      within = way_rows t.some t.parents p.way h;
       different = way_different p.way;
       only = λ ns w. way_only w p.way;
       path = path_of_lem t h p.way;

@@ -1,6 +1,7 @@
 -- A table of rows as a tree that hangs on row 0, the driver: ways up to the driver, paths and wire. Assumes nothing.
 use Rattle.std.specs.Prelude.{◌≡◌, ℕ, zero, suc, ◌+◌, ◌<◌, Bool, true, false, cond, List, [], ◌∷◌, ◌++◌, length, pos, sum_by, ◌==◌, ◌≢◌, slice_index_or, slice_set}
 use Rattle.forest.specs.Paths.{Different}
+use Rattle.order.specs.Firsts.{Among}
 use Rattle.space.specs.declared.spot.Spot.{Spot}
 use Rattle.tree_laws.specs.declared.Row.{Row}
 
@@ -67,6 +68,7 @@ along rows ns = sum_by (length_of rows) ns
 pub record Hung (rows : List Row) (k : ℕ) : Type 0 where
   pub rungs : List ℕ
   pub way : Way rows k rungs
+  pub within : (x : ℕ) → Among x rungs → x < length rows
   pub different : Different rungs
   pub only : (ns : List ℕ) → Way rows k ns → ns ≡ rungs
   pub path : path_length rows k ≡ along rows rungs
