@@ -4,8 +4,9 @@ use mathlib.Core.Path.{fun_ext}
 use Rattle.std.proofs.lemmas.Bool.{cases_eq}
 use Rattle.walk_laws.specs.Walk as laws
 use Rattle.walk_laws.proofs.Steps.{put_same, put_other}
+use Rattle.walk.specs.declared.row.Mark.{Mark}
 use Rattle.walk.specs.declared.row.Row.{Row}
-use Rattle.walk.specs.Marks.{seen, idle, marks, directs, Places, Gone, entered_by, rules_of}
+use Rattle.walk.specs.Marks.{seen, idle, marks, directs, Places, Gone, entered_by, opened, rules_of}
 
 pub marks_set : (rows : List Row) (v : ℕ) (r : Row) → v < length rows → marks (set rows v r) ≡ laws.put (marks rows) v (seen r.mark)
 marks_set rows v r h = fun_ext (λ x. go x (cases_eq x v))
@@ -50,64 +51,56 @@ part_set f rows v r h s x = go (cases_eq x v)
         (ap f (get_or-set_same rows v r idle h) ∙ (s ∙ sym (ap (λ z. f (get_or rows z idle)) e)))
     go (inr ne) = ap f (get_or-set_other rows v x r idle ne)
 
--- A row with the next child to try, and a row that was entered from v.
+-- A row with the next child to try.
 abbrev pub stepped : Row → ℕ → Row
 stepped r k = record { mark = r.mark; direct = r.direct; from = r.from; gap = r.gap; next = k }
 
-abbrev pub opened : Row → (v l : ℕ) → Row
-opened r v l = record { mark = r.mark; direct = r.direct; from = v; gap = l; next = 0 }
+-- The rows once u was relaxed from v, its row b read and put back with the mark m, and the row a of v read then.
+module _ (p q pins v u l : ℕ) (rows rows1 : List Row) (m : Mark) (a b : Row) (hv : v < length rows) (hu : u < length rows) (ne : u ≡ v → ⊥) (one : marks rows1 ≡ laws.relax v u l (marks rows)) (same : Places rows rows1) (to : b ≡ get_or rows1 u idle) (at : a ≡ get_or (set rows1 u (opened m b.direct v l)) v idle) where
+  abbrev row : Row
+  row = opened m b.direct v l
 
-module _ (p q pins v u l : ℕ) (rows rows1 rows2 : List Row) (a b : Row) (hv : v < length rows) (hu : u < length rows) (ne : u ≡ v → ⊥) (one : marks rows1 ≡ laws.relax v u l (marks rows)) (places1 : Places rows rows1) (two : marks rows2 ≡ laws.enter (rules_of p q pins rows1) u (marks rows1)) (places2 : Places rows1 rows2) (at : a ≡ get_or rows2 v idle) where
-  len2 : length rows2 ≡ length rows
-  len2 = places2.count ∙ places1.count
+  abbrev rows2 : List Row
+  rows2 = set rows1 u row
+
+  abbrev rows3 : List Row
+  rows3 = set rows2 v (stepped a (u + 1))
+
+  hu1 : u < length rows1
+  hu1 = omega (arith, same.count)
 
   hv2 : v < length rows2
-  hv2 = omega (arith, len2)
+  hv2 = omega (arith, same.count, length-set rows1 u row)
 
-  hu3 : u < length (set rows2 v (stepped a (u + 1)))
-  hu3 = omega (arith, len2, length-set rows2 v (stepped a (u + 1)))
+  new : get_or rows2 u idle ≡ row
+  new = get_or-set_same rows1 u row idle hu1
 
-  pub gone_rows : b ≡ get_or (set rows2 v (stepped a (u + 1))) u idle →
-      Gone p q pins v u l rows (set (set rows2 v (stepped a (u + 1))) u (opened b v l))
-  gone_rows to =
+  D : directs rows1 ≡ directs rows
+  D = fun_ext (λ x. same.direct x)
+
+  pub gone_rows : seen m ≡ entered_by (laws.is_a_sink (rules_of p q pins rows1) u) p q b.direct b.mark.est (seen b.mark) → Gone p q pins v u l rows rows3
+  gone_rows n =
       record {
-        marked = fun_ext (λ x. marks4 x) ∙ (two ∙ rules);
-        count = length-set rows3 u (opened b v l) ∙ (length-set rows2 v (stepped a (u + 1)) ∙ len2);
+        marked =
+            fun_ext (λ x. part_set (λ z. seen z.mark) rows2 v (stepped a (u + 1)) hv2 (ap (λ z. seen z.mark) at) x) ∙
+            enter_row rows1 p q pins u row hu1 (n ∙ ap (λ z. entered_by (laws.is_a_sink (rules_of p q pins rows1) u) p q z.direct z.mark.est (seen z.mark)) to) ∙
+            ap (λ d. laws.enter (record { p = p; q = q; pins = pins; direct = d }) u (marks rows1)) D ∙
+            ap (λ S. laws.enter (rules_of p q pins rows) u S) one;
+        count = length-set rows2 v (stepped a (u + 1)) ∙ length-set rows1 u row ∙ same.count;
         direct =
-            λ x. part_set (λ z. z.direct) rows3 u (opened b v l) hu3 (ap (λ z. z.direct) to) x ∙
-            (part_set (λ z. z.direct) rows2 v (stepped a (u + 1)) hv2 (ap (λ z. z.direct) at) x ∙ (places2.direct x ∙ places1.direct x));
-        from_new = ap (λ z. z.from) new;
-        gap_new = ap (λ z. z.gap) new;
-        next_new = ap (λ z. z.next) new;
-        next_more =
-            ap (λ z. z.next) (get_or-set_other rows3 u v (opened b v l) idle (λ h. ne (sym h))) ∙
-            ap (λ z. z.next) (get_or-set_same rows2 v (stepped a (u + 1)) idle hv2);
+            λ x. part_set (λ z. z.direct) rows2 v (stepped a (u + 1)) hv2 (ap (λ z. z.direct) at) x ∙
+            part_set (λ z. z.direct) rows1 u row hu1 (ap (λ z. z.direct) to) x ∙ same.direct x;
+        from_new = part_set (λ z. z.from) rows2 v (stepped a (u + 1)) hv2 (ap (λ z. z.from) at) u ∙ ap (λ z. z.from) new;
+        gap_new = part_set (λ z. z.gap) rows2 v (stepped a (u + 1)) hv2 (ap (λ z. z.gap) at) u ∙ ap (λ z. z.gap) new;
+        next_new = ap (λ z. z.next) (get_or-set_other rows2 v u (stepped a (u + 1)) idle ne) ∙ ap (λ z. z.next) new;
+        next_more = ap (λ z. z.next) (get_or-set_same rows2 v (stepped a (u + 1)) idle hv2);
         from_old =
-            λ x h. ap (λ z. z.from) (get_or-set_other rows3 u x (opened b v l) idle h) ∙
-            (part_set (λ z. z.from) rows2 v (stepped a (u + 1)) hv2 (ap (λ z. z.from) at) x ∙ (places2.from x ∙ places1.from x));
+            λ x h. part_set (λ z. z.from) rows2 v (stepped a (u + 1)) hv2 (ap (λ z. z.from) at) x ∙
+            ap (λ z. z.from) (get_or-set_other rows1 u x row idle h) ∙ same.from x;
         gap_old =
-            λ x h. ap (λ z. z.gap) (get_or-set_other rows3 u x (opened b v l) idle h) ∙
-            (part_set (λ z. z.gap) rows2 v (stepped a (u + 1)) hv2 (ap (λ z. z.gap) at) x ∙ (places2.gap x ∙ places1.gap x));
+            λ x h. part_set (λ z. z.gap) rows2 v (stepped a (u + 1)) hv2 (ap (λ z. z.gap) at) x ∙
+            ap (λ z. z.gap) (get_or-set_other rows1 u x row idle h) ∙ same.gap x;
         next_old =
-            λ x h k. ap (λ z. z.next) (get_or-set_other rows3 u x (opened b v l) idle h) ∙
-            (ap (λ z. z.next) (get_or-set_other rows2 v x (stepped a (u + 1)) idle k) ∙ (places2.next x ∙ places1.next x));
+            λ x h k. ap (λ z. z.next) (get_or-set_other rows2 v x (stepped a (u + 1)) idle k) ∙
+            ap (λ z. z.next) (get_or-set_other rows1 u x row idle h) ∙ same.next x;
       }
-    where
-      rows3 : List Row
-      rows3 = set rows2 v (stepped a (u + 1))
-
-      new : get_or (set rows3 u (opened b v l)) u idle ≡ opened b v l
-      new = get_or-set_same rows3 u (opened b v l) idle hu3
-
-      marks4 : (x : ℕ) → marks (set rows3 u (opened b v l)) x ≡ marks rows2 x
-      marks4 x =
-          part_set (λ z. seen z.mark) rows3 u (opened b v l) hu3 (ap (λ z. seen z.mark) to) x ∙
-          part_set (λ z. seen z.mark) rows2 v (stepped a (u + 1)) hv2 (ap (λ z. seen z.mark) at) x
-
-      D : directs rows1 ≡ directs rows
-      D = fun_ext (λ x. places1.direct x)
-
-      rules : laws.enter (rules_of p q pins rows1) u (marks rows1) ≡ laws.enter (rules_of p q pins rows) u (laws.relax v u l (marks rows))
-      rules =
-          ap (λ d. laws.enter (record { p = p; q = q; pins = pins; direct = d }) u (marks rows1)) D ∙
-          ap (λ S. laws.enter (rules_of p q pins rows) u S) one

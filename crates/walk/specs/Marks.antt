@@ -64,6 +64,10 @@ entered_by sink p q direct None m = m
 entered_by sink p q direct (Some e) m =
     cond (sink && nat_lt ((p + q) * direct) (q * e)) (laws.hung m.parent m.edge direct true) m
 
+-- The row of a node that was entered from the node v, over an edge of length l: none of its children was tried.
+abbrev pub opened : Mark → (direct v l : ℕ) → Row
+opened m direct v l = record { mark = m; direct = direct; from = v; gap = l; next = 0 }
+
 -- The rows once the walk has gone down from v to u, over an edge of length l.
 pub record Gone (p q pins v u l : ℕ) (rows rows' : List Row) : Type 0 where
   pub marked : marks rows' ≡ laws.enter (rules_of p q pins rows) u (laws.relax v u l (marks rows))

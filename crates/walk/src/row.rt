@@ -1,7 +1,7 @@
 ghost use Rattle.std.specs.Prelude.{◌≡◌, ◌≤◌, ◌&&◌, nat_lt};
 ghost use Rattle.walk_laws.specs.Walk.{offered};
 ghost use Rattle.walk.specs.Limits.{Low};
-ghost use Rattle.walk.specs.Marks.{seen, entered_by, fresh_mark, fresh_row};
+ghost use Rattle.walk.specs.Marks.{seen, entered_by, fresh_mark, fresh_row, opened};
 
 use crate::rules::Rules;
 
@@ -11,6 +11,7 @@ use crate::rules::Rules;
 pub struct Mark {
     pub est: Option<u64>,
     // Kept: nodes are numbered from 0 for users, and all memory is reserved once; boxes would ask for memory node by node.
+    // Kept: 0 is what users are told as the parent of the driver and of a node without an estimate, though neither has one.
     pub parent: usize,
     pub edge: u64,
     // Kept: whether a node broke off says nothing of the values beside it, which later offers still change.
@@ -23,6 +24,7 @@ pub struct Mark {
 pub(crate) struct Row {
     pub(crate) mark: Mark,
     pub(crate) direct: u64,
+    // Kept: an `Option` would say no more: the driver counts as entered from itself, and any other node is entered before this is read.
     pub(crate) from: usize,
     pub(crate) gap: u64,
     pub(crate) next: usize,
@@ -85,6 +87,23 @@ impl Row {
             from: 0,
             gap: 0,
             next: 0,
+        }
+    }
+
+    /// The row once its node v is entered from the node `from`, over an edge of length `gap`.
+    pub(crate) fn entered(self, v: usize, from: usize, gap: u64, rules: Rules) -> Row
+        requires near { self.direct ≤ 100000000 }
+        requires room { Low self.mark.est 0 }
+        ensures mark { seen result.mark ≡ entered_by (nat_lt 0 v && nat_lt v rules.pins) rules.allowance.p rules.allowance.q self.direct self.mark.est (seen self.mark) }
+        ensures place { result ≡ opened result.mark self.direct from gap }
+    {
+        let mark = self.mark.entered(v, self.direct, rules);
+        Row {
+            mark,
+            from,
+            gap,
+            next: 0,
+            ..self
         }
     }
 }

@@ -1,7 +1,7 @@
 ghost use Rattle.std.specs.Prelude.{◌≡◌, ◌+◌, ◌<◌, ◌≤◌, length, ◌≢◌, slice_index_or};
-ghost use Rattle.walk_laws.specs.Walk.{relax, enter};
+ghost use Rattle.walk_laws.specs.Walk.{relax};
 ghost use Rattle.walk.specs.Limits.{Low};
-ghost use Rattle.walk.specs.Marks.{marks, idle, Places, Gone, rules_by};
+ghost use Rattle.walk.specs.Marks.{marks, idle, Places, Gone};
 ghost use Rattle.walk.specs.Tables.{rows_of};
 
 use super::Table;
@@ -24,17 +24,6 @@ impl Table {
         row.mark = row.mark.offered(u, l, sum);
     }
 
-    /// The node v is entered.
-    fn enter(&mut self, v: usize, rules: Rules)
-        requires at { v < length (rows_of self.old) }
-        requires room { Low (slice_index_or (rows_of self.old) v idle).mark.est 0 }
-        ensures after { marks (rows_of self.new) ≡ enter (rules_by rules (rows_of self.old)) v (marks (rows_of self.old)) }
-        ensures places { Places (rows_of self.old) (rows_of self.new) }
-    {
-        let row = &mut self.rows[v];
-        row.mark = row.mark.entered(v, row.direct, rules);
-    }
-
     /// The walk goes down from v to its next child u.
     pub(super) fn descend(&mut self, v: usize, u: usize, l: u64, rules: Rules)
         requires near { v < length (rows_of self.old) }
@@ -45,11 +34,8 @@ impl Table {
         ensures { Gone rules.allowance.p rules.allowance.q rules.pins v u l (rows_of self.old) (rows_of self.new) }
     {
         self.relax(v, u, l);
-        self.enter(u, rules);
-        self.rows[v].next = u + 1;
         let row = &mut self.rows[u];
-        row.from = v;
-        row.gap = l;
-        row.next = 0;
+        *row = row.entered(u, v, l, rules);
+        self.rows[v].next = u + 1;
     }
 }
