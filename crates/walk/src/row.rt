@@ -90,20 +90,16 @@ impl Row {
         }
     }
 
-    /// The row once its node v is entered from the node `from`, over an edge of length `gap`.
-    pub(crate) fn entered(self, v: usize, from: usize, gap: u64, rules: Rules) -> Row
-        requires near { self.direct ≤ 100000000 }
-        requires room { Low self.mark.est 0 }
-        ensures mark { seen result.mark ≡ entered_by (nat_lt 0 v && nat_lt v rules.pins) rules.allowance.p rules.allowance.q self.direct self.mark.est (seen self.mark) }
-        ensures place { result ≡ opened result.mark self.direct from gap }
+    /// The walk enters the row's node v from the node `from`, over an edge of length `gap`.
+    pub(crate) fn enter(&mut self, v: usize, from: usize, gap: u64, rules: Rules)
+        requires near { self.old.direct ≤ 100000000 }
+        requires room { Low self.old.mark.est 0 }
+        ensures mark { seen self.new.mark ≡ entered_by (nat_lt 0 v && nat_lt v rules.pins) rules.allowance.p rules.allowance.q self.old.direct self.old.mark.est (seen self.old.mark) }
+        ensures place { self.new ≡ opened self.new.mark self.old.direct from gap }
     {
-        let mark = self.mark.entered(v, self.direct, rules);
-        Row {
-            mark,
-            from,
-            gap,
-            next: 0,
-            ..self
-        }
+        self.mark = self.mark.entered(v, self.direct, rules);
+        self.from = from;
+        self.gap = gap;
+        self.next = 0;
     }
 }

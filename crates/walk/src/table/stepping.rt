@@ -34,8 +34,7 @@ impl Table {
         ensures { Gone rules.allowance.p rules.allowance.q rules.pins v u l (rows_of self.old) (rows_of self.new) }
     {
         self.relax(v, u, l);
-        let row = &mut self.rows[u];
-        *row = row.entered(u, v, l, rules);
+        self.rows[u].enter(u, v, l, rules);
         self.rows[v].next = u + 1;
     }
 }
