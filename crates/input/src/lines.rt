@@ -2,7 +2,7 @@
 ghost use Rattle.std.specs.Prelude.{IfOk};
 ghost use Rattle.std.specs.List.Sorted.{IsNonDecreasingBy};
 
-use space::Spot;
+use space::{ParseSpotError, Spot};
 use std::io;
 
 /// A spot, and the number of the line that it stands on, from 1.
@@ -21,20 +21,19 @@ pub fn read(rt: &HostRuntime) -> io::Result<Vec<Entry>>
     // Kept: `enumerate` counts in `usize`, so the number of the line would be the same sum and a cast.
     for text in rt.lines(rt.alloc()) {
         line = line.saturating_add(1);
-        if let Some(spot) = spot_on(text)? {
-            entries.push(Entry { line, spot })?;
-        } else {
-            println!(rt; "line {line}: not three numbers of 32 bits")?;
+        match spot_on(text)? {
+            Ok(spot) => entries.push(Entry { line, spot })?,
+            Err(error) => println!(rt; "line {line}: {error}")?,
         }
     }
     Ok(entries)
 }
 
-/// The spot on a line, where it has one; bytes that are no text have none.
-fn spot_on(line: io::Result<String>) -> io::Result<Option<Spot>> {
-    line.map(|text| spotlist::spot(text.as_str()))
+/// The spot on a line, or that there is none; bytes that are no text have none.
+fn spot_on(line: io::Result<String>) -> io::Result<Result<Spot, ParseSpotError>> {
+    line.map(|text| text.parse::<Spot>())
         .or_else(|e| if e.kind() == io::ErrorKind::InvalidData {
-            Ok(None)
+            Ok(Err(ParseSpotError))
         } else {
             Err(e)
         })

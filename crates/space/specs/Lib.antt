@@ -4,3 +4,4 @@ pub mod Spots
 pub mod Root
 pub mod Grid
 pub mod Lifted
+pub mod Lines

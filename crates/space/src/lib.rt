@@ -17,7 +17,7 @@ pub use air::Air;
 pub use lift::Lift;
 pub use middle_one::middle;
 pub use plane::Plane;
-pub use spot::{Spot, spot_of};
+pub use spot::{ParseSpotError, Spot, spot_of};
 
 /// The laws are owed by every space that is at most this wide.
 pub const LONGEST: u64 = 100_000_000;

@@ -1,9 +1,14 @@
 // A place where a wire can begin, end or part.
 ghost use Rattle.std.specs.Prelude.{◌≡◌, Some};
+ghost use Rattle.std.specs.Result.{result_ok};
+ghost use Rattle.space.specs.Lines.{Read, SpotLine};
 ghost use Rattle.space.specs.Shapes.{spot_at_level};
 ghost use Rattle.space.specs.Spots.{spot_of, spot_text};
 
+use std::error::Error;
 use std::fmt;
+use std::num::ParseIntError;
+use std::str::FromStr;
 
 /// The default is the origin: level 0, with x and y 0.
 #[derive(Clone, Copy, PartialEq, Eq, Debug, Default)]
@@ -33,6 +38,40 @@ impl fmt::Display for Spot {
     fn fmt<W: fmt::Write>(&self, f: &mut fmt::Formatter<W>) -> fmt::Result {
         let Spot { x, y, level } = *self;
         write!(f, "{x},{y},{level}")
+    }
+}
+
+/// A text is no spot.
+#[derive(Clone, Copy, Debug, PartialEq, Eq)]
+pub struct ParseSpotError;
+
+impl fmt::Display for ParseSpotError {
+    fn fmt<W: fmt::Write>(&self, f: &mut fmt::Formatter<W>) -> fmt::Result {
+        write!(f, "not three numbers of 32 bits")
+    }
+}
+
+impl Error for ParseSpotError {}
+
+impl From<ParseIntError> for ParseSpotError {
+    fn from(_error: ParseIntError) -> ParseSpotError {
+        ParseSpotError
+    }
+}
+
+// Three decimal numbers parted by commas; an error exactly where the line is not that.
+impl FromStr for Spot {
+    type Err = ParseSpotError;
+
+    ghost from_str_gives = { λ line answer. Read SpotLine line (result_ok answer) };
+
+    fn from_str(line: &str) -> Result<Spot, ParseSpotError> {
+        let (first, rest) = line.split_once(',').ok_or(ParseSpotError)?;
+        let (second, third) = rest.split_once(',').ok_or(ParseSpotError)?;
+        let x = first.parse()?;
+        let y = second.parse()?;
+        let level = third.parse()?;
+        Ok(Spot { x, y, level })
     }
 }
 
