@@ -1,3 +1,4 @@
 pub mod Grown
 pub mod Lengths
+pub mod Measured
 pub mod Spanning

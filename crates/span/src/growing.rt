@@ -1,9 +1,10 @@
 ghost use Rattle.std.specs.Prelude.{◌≡◌, ◌+◌, ◌<◌, length};
 ghost use Rattle.seed.specs.Seeds.{edges_of};
 ghost use Rattle.span.specs.Grown.{Growing, Grown};
-ghost use Rattle.span.specs.Lengths.{lengths};
+ghost use Rattle.span.specs.Measured.{lengths_of};
 
 use crate::links::Links;
+use crate::pins::Pins;
 use seed::{Refusal, Seed};
 use space::{Space, Spot};
 use std::alloc::{AllocError, Global};
@@ -35,22 +36,23 @@ impl Spanner {
             return Err(Refusal::Outside);
         }
         seed.restart(pins.len())?;
-        self.links.start(space, pins);
-        for _ in 1..pins.len() {
-            self.step(space, pins, seed);
+        let pins = Pins { space, spots: pins };
+        self.links.start(&pins);
+        for _ in 1..pins.spots.len() {
+            self.step(&pins, seed);
         }
         Ok(seed.wire())
     }
 
     /// One step: the first of the firsts is taken, and its pin is compared with each pin that is still outside.
-    fn step<S: Space>(&mut self, space: &S, pins: &[Spot], seed: &mut Seed)
-        ensures { Growing (length pins.now) (lengths S.Space space.now pins.now) seed.old self.old.links.outside.items → length (edges_of seed.old) + 1 < length pins.now → Growing (length pins.now) (lengths S.Space space.now pins.now) seed.new self.new.links.outside.items × (length (edges_of seed.new) ≡ length (edges_of seed.old) + 1) }
+    fn step<S: Space>(&mut self, pins: &Pins<S>, seed: &mut Seed)
+        ensures { Growing (length pins.now.spots.now) (lengths_of pins.now) seed.old self.old.links.outside.items → length (edges_of seed.old) + 1 < length pins.now.spots.now → Growing (length pins.now.spots.now) (lengths_of pins.now) seed.new self.new.links.outside.items × (length (edges_of seed.new) ≡ length (edges_of seed.old) + 1) }
     {
         let Some(nearest) = self.links.first() else {
             return;
         };
         let _ = seed.join(nearest.u, nearest.v, nearest.length);
         self.links.forget(nearest.v);
-        self.links.offer(space, pins, nearest.v);
+        self.links.offer(pins, nearest.v);
     }
 }

@@ -4,6 +4,7 @@
 
 mod growing;
 mod links;
+mod pins;
 
 pub use growing::Spanner;
-pub use links::length_between;
+pub use pins::length_between;

@@ -2,29 +2,14 @@
 ghost use Rattle.std.specs.Prelude.{◌≡◌, ◌-◌, ◌≤◌, map, length, vec_capacity, filter};
 ghost use Rattle.order.specs.Firsts.{FirstOf};
 ghost use Rattle.order.specs.Links.{link_before};
-ghost use Rattle.span.specs.Lengths.{length_of, lengths};
-ghost use Rattle.span.specs.Spanning.{better, elsewhere, fan, link as linkBetween, offered};
+ghost use Rattle.span.specs.Measured.{lengths_of};
+ghost use Rattle.span.specs.Spanning.{better, elsewhere, fan, offered};
 
+use crate::pins::Pins;
 use order::{Link, first};
-use seed::{LONGEST, NODES};
-use space::{Space, Spot, spot_of};
+use seed::NODES;
+use space::Space;
 use std::alloc::{AllocError, Global};
-
-/// The distance of two spots as the length of an edge, from 1 to `LONGEST`; 1 where there is no distance.
-pub fn length_between<S: Space>(space: &S, a: Spot, b: Spot) -> u64
-    ensures { result ≡ length_of S.Space space.now a b }
-{
-    space.distance(a, b).map_or(1, |d| d.clamp(1, LONGEST))
-}
-
-/// The link of two pins.
-// Kept: `space` and `pins` stay two parameters: of a struct each clause would read `lengths S.Space net.now.space.now net.now.pins.now`.
-fn link<S: Space>(space: &S, pins: &[Spot], u: usize, v: usize) -> Link
-    ensures { result ≡ linkBetween (lengths S.Space space.now pins.now) u v }
-{
-    let length = length_between(space, spot_of(pins, u), spot_of(pins, v));
-    Link { length, u, v }
-}
 
 /// The first of two links.
 fn nearer(old: Link, new: Link) -> Link
@@ -54,13 +39,13 @@ impl Links {
     }
 
     /// The links from pin 0 to each other pin.
-    pub(crate) fn start<S: Space>(&mut self, space: &S, pins: &[Spot])
-        requires { length pins.now ≤ 512 }
-        ensures { self.new.outside.items ≡ fan (lengths S.Space space.now pins.now) (length pins.now - 1) }
+    pub(crate) fn start<S: Space>(&mut self, pins: &Pins<S>)
+        ensures { self.new.outside.items ≡ fan (lengths_of pins.now) (length pins.now.spots.now - 1) }
     {
         self.outside.clear();
-        for v in 1..pins.len() {
-            self.outside.push_reserved(link(space, pins, 0, v));
+        // Kept: a link names its pins by number; `pins.spots.iter().enumerate().skip(1)` gives the same numbers beside spots that nothing reads.
+        for v in 1..pins.spots.len() {
+            self.outside.push_reserved(pins.link(0, v));
         }
     }
 
@@ -72,11 +57,11 @@ impl Links {
     }
 
     /// Compares the first link of each pin outside with the one from `u`, the newest pin inside.
-    pub(crate) fn offer<S: Space>(&mut self, space: &S, pins: &[Spot], u: usize)
-        ensures { self.new.outside.items ≡ map (offered (lengths S.Space space.now pins.now) u) self.old.outside.items }
+    pub(crate) fn offer<S: Space>(&mut self, pins: &Pins<S>, u: usize)
+        ensures { self.new.outside.items ≡ map (offered (lengths_of pins.now) u) self.old.outside.items }
     {
         for old in self.outside.iter_mut() {
-            *old = nearer(*old, link(space, pins, u, old.v));
+            *old = nearer(*old, pins.link(u, old.v));
         }
     }
 }

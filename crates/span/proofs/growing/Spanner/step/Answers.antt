@@ -1,5 +1,5 @@
 use Rattle.std.proofs.Common.{◌≡◌, map, filter, ap, ◌∙◌}
-use Rattle.span.specs.Lengths.{lengths}
+use Rattle.span.specs.Measured.{lengths_of}
 use Rattle.span.specs.Spanning.{elsewhere, offered}
 use Rattle.span.proofs.Grows.{lengths_fair, step_grows, step_none}
 use Rattle.span.proofs.growing.Spanner.step.Goals as goal
@@ -9,8 +9,9 @@ returns-in_default g c gr more = absurd (step_none _ _ c.args.seed.now c.args.se
 
 pub returns : goal.returns
 returns g c gr more =
-    let d = lengths g.S.Space c.args.space.now c.args.pins.now in
+    let pins = c.args.pins.now in
+    let d = lengths_of pins in
     let F = c.args.self.now.links.outside.items in
     let w = c.in-Some.nearest in
     let links : c.offer.new.self.outside.items ≡ map (offered d w.v) (filter (elsewhere w.v) F) = c.offer.ensures ∙ ap (map (offered d w.v)) c.forget.ensures in
-    step_grows _ d (lengths_fair g.S.Space c.args.space.now c.args.pins.now) c.args.seed.now c.join.new.self F gr w c.in-Some.ensures c.join.result c.join.ensures c.offer.new.self.outside.items links
+    step_grows _ d (lengths_fair g.S.Space pins.space.now pins.spots.now) c.args.seed.now c.join.new.self F gr w c.in-Some.ensures c.join.result c.join.ensures c.offer.new.self.outside.items links

@@ -1,12 +1,12 @@
 use Rattle.std.proofs.Common.{◌≡◌, ◌-◌, length, vec_len, ap, ◌∙◌, arith}
-use Rattle.span.specs.Lengths.{lengths}
+use Rattle.span.specs.Measured.{lengths_of}
 use Rattle.span.specs.Spanning.{fan}
 use Rattle.span.proofs.Steps.{fan_more}
 use Rattle.span.proofs.links.Links.start.Goals as goal
 
 pub loop-v-preserved : goal.loop-v-preserved
 loop-v-preserved g c =
-    let d = lengths g.S.Space c.args.space.now c.args.pins.now in
+    let d = lengths_of c.args.pins.now in
     let pushed = c.push_reserved.ensures in
     let inv = c.loop-v.invariant in
     let more = fan_more d (vec_len c.loop-v.self.outside) in
@@ -14,7 +14,7 @@ loop-v-preserved g c =
 
 pub returns : goal.returns
 returns g c =
-    let d = lengths g.S.Space c.args.space.now c.args.pins.now in
+    let d = lengths_of c.args.pins.now in
     let inv = c.loop-v.invariant in
-    let all : vec_len c.loop-v.self.outside ≡ length c.args.pins.now - 1 = omega (arith, inv.1, inv.2, c.loop-v-test.false) in
+    let all : vec_len c.loop-v.self.outside ≡ length c.args.pins.now.spots.now - 1 = omega (arith, inv.1, inv.2, c.loop-v-test.false) in
     inv.0 ∙ ap (fan d) all
