@@ -4,6 +4,7 @@ use seed::{LONGEST, NODES, Seed};
 use space::{Space, Spot};
 use span::Spanner;
 use std::alloc::{AllocError, Global};
+use std::cmp::Reverse;
 use std::io;
 use walk::Table;
 
@@ -45,21 +46,20 @@ fn fill<S: Space>(table: &mut Table, space: &S, pins: &[Spot]) {
     }
 }
 
-/// The worst sink of a finished walk: the greatest of 1000 x estimate / direct distance, with its number.
+/// The figure of a sink of a finished walk: 1000 x estimate / direct distance.
+fn figure(table: &Table, sink: usize) -> Option<u64> {
+    let mark = table.mark(sink)?;
+    let direct = table.direct(sink)?;
+    Some(mark.est.unwrap_or(0).saturating_mul(1000) / direct.max(1))
+}
+
+/// The greatest figure above 0 and the first sink that has it; 0 at pin 0 where there is none.
 fn worst(table: &Table) -> (u64, usize) {
-    let mut worst = 0;
-    let mut at = 0;
-    // Kept: the number of the sink is a part of the answer, so the loop is over numbers; 0 at pin 0 is printed where no figure is above 0.
-    for k in 1..table.len() {
-        if let (Some(mark), Some(direct)) = (table.mark(k), table.direct(k)) {
-            let figure = mark.est.unwrap_or(0).saturating_mul(1000) / direct.max(1);
-            if figure > worst {
-                worst = figure;
-                at = k;
-            }
-        }
-    }
-    (worst, at)
+    (1..table.len())
+        .filter_map(|k| figure(table, k).map(|figure| (figure, Reverse(k))))
+        .filter(|(figure, _)| *figure > 0)
+        .max()
+        .map_or((0, 0), |(figure, Reverse(k))| (figure, k))
 }
 
 impl<'a> Report<'a> {
