@@ -9,9 +9,6 @@ use Rattle.input.specs.declared.lines.Entry.{Entry}
 abbrev pub Upto : List Entry → ℕ → Type 0
 Upto xs n = IsNonDecreasingBy (λ (e : Entry). e.line) xs × ((d : Entry) → 0 < length xs → (get_or xs (length xs - 1) d).line ≤ n)
 
-pub keeps : (xs : List Entry) (n m : ℕ) → n ≤ m → Upto xs n → Upto xs m
-keeps xs n m h u = (u.0, λ d l. omega (arith, u.1 d l))
-
 pub pushed : (xs : List Entry) (n : ℕ) (e : Entry) → n ≤ e.line → Upto xs n → Upto (xs ++ e ∷ []) e.line
 pushed xs n e h u = (
   IsNonDecreasingBy-push (λ (e : Entry). e.line) xs e u.0 (λ d l. omega (arith, u.1 d l)),
