@@ -308,11 +308,6 @@ module _ (n : ℕ) (d t : ℕ → ℕ → ℕ) (agree : (u v : ℕ) → u < n �
     whole = s.whole;
   }
 
--- ---- steps of the loops
-
-pub fan_more : (d : ℕ → ℕ → ℕ) (k : ℕ) → fan d (k + 1) ≡ fan d k ++ link d 0 (k + 1) ∷ []
-fan_more d k = ap (fan d) (add-one k) ∙ ap (λ v. fan d k ++ link d 0 v ∷ []) (sym (add-one k))
-
 -- ---- there is one spanning seed only
 
 edge_of : (e f : Edge) → link_of e ≡ link_of f → e ≡ f
