@@ -2,7 +2,7 @@ ghost use Rattle.std.specs.Prelude.{ℕ, IfErr, IfOk, MatchOption, option_copied
 ghost use Rattle.input.specs.Arguments.{Costs, Lawful, Refuses, Says, Unlawful};
 
 use std::error::Error;
-use std::{env, fmt};
+use std::fmt;
 use walk::Allowance;
 
 const DEFAULT_PRICE: u32 = 40;
@@ -62,13 +62,5 @@ impl Arguments {
         let price = price_of(price).ok_or(BadArgument::Price)?;
         let allowance = allowance_of(ratio).ok_or(BadArgument::Allowance)?;
         Ok(Arguments { price, allowance })
-    }
-
-    /// The arguments after the program's name. No contract says what those are, so this promises its type.
-    pub fn read(rt: &HostRuntime) -> anyhow::Result<Arguments> {
-        let mut given = env::args(rt)?.skip(1);
-        let price = given.next();
-        let ratio = given.next();
-        Ok(Arguments::new(price.as_deref(), ratio.as_deref())?)
     }
 }

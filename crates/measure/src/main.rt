@@ -11,13 +11,14 @@ use input::Arguments;
 use report::Report;
 use seeds::Tables;
 use space::{Air, Lift, Plane, Spot};
+use std::env;
 
 fn main(rt: HostRuntime) -> anyhow::Result<()> {
     run(&rt)
 }
 
 fn run(rt: &HostRuntime) -> anyhow::Result<()> {
-    let Arguments { price, allowance } = Arguments::read(rt)?;
+    let Arguments { price, allowance } = arguments(rt)?;
     let entries = input::read(rt)?;
     let spots: Vec<Spot> = entries.iter().map(|entry| entry.spot).collect(rt.alloc())?;
     let mut report = Report {
@@ -39,4 +40,12 @@ fn run(rt: &HostRuntime) -> anyhow::Result<()> {
     let count = spots.len();
     println!(rt; "{count} spots measured")?;
     Ok(())
+}
+
+/// The arguments after the program's name.
+// Kept: a call of `input` for these lines could promise no more than its type, since no contract says what the arguments are.
+fn arguments(rt: &HostRuntime) -> anyhow::Result<Arguments> {
+    let price = env::args(rt)?.nth(1);
+    let ratio = env::args(rt)?.nth(2);
+    Ok(Arguments::new(price.as_deref(), ratio.as_deref())?)
 }
