@@ -1,41 +1,50 @@
--- The worst of the sinks so far, and by the space's own distances. Assumes nothing.
-use Rattle.std.proofs.Common.{◌≡◌, ℕ, ◌+◌, ◌*◌, ◌/◌, ◌<◌, ◌≤◌, max, Bool, true, false, List, length, Option, ap, ◌∙◌, ⊎_elim, arith}
-use Rattle.std.specs.Option.{unwrap_or}
-use Rattle.std.proofs.lemmas.Bool.{and_from, cases_eq}
+-- The worst of the sinks, and by the space's own distances. Assumes nothing.
+use Rattle.std.proofs.Common.{◌≡◌, ℕ, ◌*◌, ◌/◌, ◌<◌, ◌≤◌, max, Bool, true, false, nat_lt, ◌⊎◌, List, length, Some, None, Option, refl, ap, ◌∙◌, ⊎_elim, arith}
+use Rattle.std.specs.Option.{IsSome, unwrap_or}
+use Rattle.std.proofs.lemmas.Bool.{and_from, ltb-false}
 use Rattle.net_laws.specs.Readings.{WorstOf, direct_distance, figure_of}
 use Rattle.net_laws.specs.States.{State}
 use Rattle.net_laws.specs.Worlds.{Whole}
+use Rattle.net_laws.specs.Worsts.{worst_before, worst_order}
 use Rattle.net_laws.specs.declared.reading.Worst.{Worst}
+use Rattle.order.specs.Bests.{BestOf, Found}
+use Rattle.order.specs.Firsts.{FirstOf}
+use Rattle.order.specs.Lexical.{then_false}
+use Rattle.order.proofs.Deciding.{found_best}
 use Rattle.space.specs.Laws.{Metric, answered, limit}
 use Rattle.space.specs.declared.Space.{Ghosts}
+use Rattle.space.specs.declared.spot.Spot.{Spot}
 use Rattle.span.specs.Lengths.{length_of, spot_of}
 use Rattle.tree.specs.Hooks.{reach_of}
 use Rattle.tree.proofs.Measured.{uncut}
 use Rattle.tree_laws.specs.Trees.{path_length}
 use Rattle.tree_laws.specs.declared.Row.{Row}
+use Rattle.net.specs.Sinks.{Sink, SinkAt}
 
--- of the numbers from 1 to k - 1, p has the greatest figure w, and no lower one has it
-abbrev pub Leads : (ℕ → ℕ) → (k p w : ℕ) → Type 0
-Leads f k p w = (0 < p) × (p < k) × (w ≡ f p) × ((j : ℕ) → 0 < j → j < k → f j ≤ w) × ((j : ℕ) → 0 < j → j < p → f j < w)
+-- ---- the worst is the first of the sinks
 
-module _ (f : ℕ → ℕ) (k p w x : ℕ) (l : Leads f k p w) (e : x ≡ f k) where
-  pub leads_more : w < x → Leads f (k + 1) k x
-  leads_more h = (
-    omega (arith, l.0, l.1),
-    omega arith,
-    e,
-    λ j s b. ⊎_elim (λ (q : j ≡ k). omega (arith, ap f q, e)) (λ (n : j ≡ k → ⊥). omega (arith, l.3 j s (omega arith))) (cases_eq j k),
-    λ j s b. omega (arith, l.3 j s b),
-  )
+module _ (d : Spot → Spot → ℕ) (n : State) (rows : List Row) where
+  -- the first that a search over the pins finds is the first of the sinks
+  pub first_sink : {Gives : ℕ → Option Worst → Type 0} {xs : List Worst} (pins : ℕ) (o : Option Worst) → pins ≡ n.pins → Found Gives pins xs → FirstOf worst_before xs o → ((k : ℕ) (r : Option Worst) → k < pins → Gives k r → BestOf worst_before (SinkAt d n rows k) r) → BestOf worst_before (Sink d n rows) o
+  first_sink pins o e found first best =
+      found_best (SinkAt d n rows) (Sink d n rows) worst_order o found first (λ k r h q. q.0) (λ r q. (r.pin, omega (arith, q.pin, e), (q, refl))) best
 
-  pub leads_same : x ≤ w → Leads f (k + 1) p w
-  leads_same h = (
-    l.0,
-    omega (arith, l.1),
-    l.2,
-    λ j s b. ⊎_elim (λ (q : j ≡ k). omega (arith, ap f q, e)) (λ (n : j ≡ k → ⊥). l.3 j s (omega arith)) (cases_eq j k),
-    l.4,
-  )
+  pub some_sink : 2 ≤ n.pins → (o : Option Worst) → BestOf worst_before (Sink d n rows) o → IsSome o
+  some_sink h None b = absurd (b (record { pin = 1; figure = figure_of d n rows 1 }) (record { later = omega arith; pin = omega arith; figure = refl }))
+  some_sink h (Some r) b = refl
+
+  pub worst_sink : (r : Worst) → BestOf worst_before (Sink d n rows) (Some r) → WorstOf d n rows r
+  worst_sink r b = record {
+    sink = (b.0.later, b.0.pin);
+    figure = b.0.figure;
+    greatest = λ k p h. ⊎_elim (λ g. omega (arith, g)) (λ e. omega (arith, e.0)) (behind k p h);
+    lowest = λ k p h. ⊎_elim (λ g. g) (λ e. omega (arith, h, ltb-false k r.pin e.1)) (behind k p (omega (arith, h, b.0.pin)));
+  }
+    where
+      behind : (k : ℕ) → 0 < k → k < n.pins → (figure_of d n rows k < r.figure) ⊎ ((r.figure ≡ figure_of d n rows k) × (nat_lt k r.pin ≡ false))
+      behind k p h =
+          then_false r.figure (figure_of d n rows k) (nat_lt k r.pin)
+          (b.1 (record { pin = k; figure = figure_of d n rows k }) (record { later = p; pin = h; figure = refl }))
 
 pub answered_or : (b : Bool) (x : ℕ) (o : Option ℕ) → o ≡ answered b x → unwrap_or o 0 ≤ x
 answered_or true x o e = omega (arith, ap (λ z. unwrap_or z 0) e)

@@ -1,12 +1,16 @@
 // The worst sink of a tree.
-ghost use Rattle.std.specs.Prelude.{◌≡◌, ◌<◌, ◌≤◌, true};
+ghost use Rattle.std.specs.Prelude.{◌≡◌, ◌<◌};
 ghost use Rattle.net_laws.specs.Readings.{WorstOf, figure_of};
+ghost use Rattle.net_laws.specs.Worsts.{worst_before};
+ghost use Rattle.order.specs.Bests.{BestOf};
 ghost use Rattle.span.specs.Lengths.{length_of};
 ghost use Rattle.tree.specs.Tables.{rows_of};
 ghost use Rattle.net.specs.Nets.{seen};
+ghost use Rattle.net.specs.Sinks.{SinkAt};
 
 use crate::board::Built;
 use net_laws::Worst;
+use order::first_found;
 use space::Space;
 use span::length_between;
 
@@ -21,21 +25,23 @@ impl Built<'_> {
         1000 * self.tree().path(k).unwrap_or(0) / direct
     }
 
+    /// The pin `k` with its figure, where it is a sink.
+    fn sink<S: Space>(&self, space: &S, k: usize) -> Option<Worst>
+        requires { k < self.now.board.now.pins }
+        ensures { BestOf worst_before (SinkAt (length_of S.Space space.now) (seen self.now.board.now) (rows_of self.now.board.now.tree) k) result }
+    {
+        if k == 0 {
+            return None;
+        }
+        let figure = self.figure(space, k);
+        Some(Worst { pin: k, figure })
+    }
+
     /// The sink with the greatest figure; of equal ones the lowest.
     pub(crate) fn worst<S: Space>(&self, space: &S) -> Worst
         ensures { WorstOf (length_of S.Space space.now) (seen self.now.board.now) (rows_of self.now.board.now.tree) result }
     {
-        let mut worst = Worst {
-            pin: 1,
-            figure: self.figure(space, 1),
-        };
-        // Kept: the number of the sink is a part of the answer, so the loop is over numbers.
-        for k in 2..self.board().pins() {
-            let figure = self.figure(space, k);
-            if figure > worst.figure {
-                worst = Worst { pin: k, figure };
-            }
-        }
-        worst
+        // There are 2 pins or more, so there is a sink.
+        first_found(self.board().pins(), |k| self.sink(space, k)).unwrap()
     }
 }

@@ -3,6 +3,7 @@ pub mod States
 pub mod Answers
 pub mod Builds
 pub mod Readings
+pub mod Worsts
 pub mod Worlds
 pub mod Logs
 pub mod Guarantee
