@@ -1,7 +1,8 @@
 -- Boards with equal parts are equal, and what the first spots of a board span. Assumes nothing.
-use Rattle.std.proofs.Common.{◌≡◌, ℕ, ◌+◌, ◌<◌, ◌≤◌, true, Bool, Decides, List, length, Ok, Err, Result, ⊎_elim, take, vec_items, vec_capacity, ap, ◌∙◌, subst, arith, length-take, get_or-take}
+use Rattle.std.proofs.Common.{◌≡◌, ℕ, ◌+◌, ◌<◌, ◌≤◌, Bool, Decides, List, length, Ok, Err, Result, ⊎_elim, take, vec_items, vec_capacity, ap, ◌∙◌, subst, arith, length-take, get_or-take}
 use Rattle.std.specs.Result.{result_unwrap_or}
-use mathlib.Core.HLevel.{is_prop→PathP, →_prop}
+use Rattle.std.proofs.Props.{props}
+use mathlib.Core.HLevel.{is_prop→PathP}
 use native.Mathlib.Bridge.{le_prop}
 use native.Mathlib.Nat.{ℕ_set}
 use Rattle.forest.specs.declared.Edge.{Edge}
@@ -17,24 +18,25 @@ use Rattle.span.specs.Spanning.{Spanning}
 use Rattle.span.proofs.Steps.{spanning_agrees}
 use Rattle.tree.specs.Hooks.{reach_of}
 use Rattle.tree.specs.Tables.{rows_of}
+use Rattle.tree.specs.declared.table.Table.{Table}
 use Rattle.net.specs.declared.board.Board.{Board}
+use Rattle.net.specs.declared.board.holding.Tree.TheVariants.{Standing}
 
-pub same_board : (a b : Board) → a.spots ≡ b.spots → a.pins ≡ b.pins → a.allowance ≡ b.allowance → a.seed ≡ b.seed → a.built ≡ b.built → a.tree ≡ b.tree → a ≡ b
-same_board a b s p l e u t = λ i.
+pub same_board : (a b : Board) → a.spots ≡ b.spots → a.pins ≡ b.pins → a.allowance ≡ b.allowance → a.seed ≡ b.seed → a.tree ≡ b.tree → a ≡ b
+same_board a b s p l e t = λ i.
     record {
       spots = s i;
       pins = p i;
       allowance = l i;
       seed = e i;
-      built = u i;
       tree = t i;
       room = is_prop→PathP (λ j. 512 ≤ vec_capacity (s j)) (λ j. le_prop) a.room b.room i;
       first = is_prop→PathP (λ j. p j ≤ length (vec_items (s j))) (λ j. le_prop) a.first b.first i;
       few = is_prop→PathP (λ j. p j ≤ 256) (λ j. le_prop) a.few b.few i;
       points = is_prop→PathP (λ j. length (vec_items (s j)) ≤ p j + 256) (λ j. le_prop) a.points b.points i;
       nodes = is_prop→PathP (λ j. nodes_of (e j) ≡ length (vec_items (s j))) (λ j. ℕ_set _ _) a.nodes b.nodes i;
-      tall = is_prop→PathP (λ j. u j ≡ true → length (vec_items (s j)) ≤ length (rows_of (t j))) (λ j. →_prop le_prop) a.tall b.tall i;
-      two = is_prop→PathP (λ j. u j ≡ true → 2 ≤ p j) (λ j. →_prop le_prop) a.two b.two i;
+      tall = is_prop→PathP (λ j. (x : Table) → t j ≡ Standing x → length (vec_items (s j)) ≤ length (rows_of x)) (λ j. hlevel props) a.tall b.tall i;
+      two = is_prop→PathP (λ j. (x : Table) → t j ≡ Standing x → 2 ≤ p j) (λ j. hlevel props) a.two b.two i;
     }
 
 -- of some pins that a seed has room for, a seed is grown

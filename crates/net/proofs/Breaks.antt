@@ -31,7 +31,7 @@ use Rattle.tree_laws.proofs.Adding.{add_length}
 use Rattle.tree_laws.proofs.Hanging.{hang_length}
 use Rattle.walk_laws.specs.Walk.{Rules, Table}
 use Rattle.walk.specs.declared.allowance.Allowance.{Allowance}
-use Rattle.net.specs.Nets.{ReadyAnswer, seen}
+use Rattle.net.specs.Nets.{ReadyAnswer, seen, table_of}
 use Rattle.net.specs.declared.board.Board.{Board}
 use Rattle.net.proofs.Builds.{straight_count}
 
@@ -142,7 +142,7 @@ joined_tree d m b p q found w rows after s j =
     }
 
 -- a build of a board that is ready, joined after it, answers as a net asks
-pub joined_told : {X : Type 0} (G : Ghosts X) (J : JoinGhosts X) (s : X) (b straight after : Board) (a : Allowance) (found : List ℕ) (w v : ℕ) → ReadyAnswer (seen b) (Ok a) → Straightened (reach_of G s) (vec_items b.spots) a.p a.q b.pins (nodes_of b.seed) (edges_of b.seed) found w (rows_of straight.tree) → seen straight ≡ with_tree (seen b) (rows_of straight.tree) → Joins (reach_of G s) (join_of G J s) (rows_of straight.tree) found (rows_of after.tree) → v ≡ wire_of (rows_of after.tree) → seen after ≡ with_tree (seen straight) (rows_of after.tree) → JoinedAnswer (cut (joining G J s)) (seen b) (seen after) (Ok v)
+pub joined_told : {X : Type 0} (G : Ghosts X) (J : JoinGhosts X) (s : X) (b straight after : Board) (a : Allowance) (found : List ℕ) (w v : ℕ) → ReadyAnswer (seen b) (Ok a) → Straightened (reach_of G s) (vec_items b.spots) a.p a.q b.pins (nodes_of b.seed) (edges_of b.seed) found w (rows_of (table_of straight.tree)) → seen straight ≡ with_tree (seen b) (rows_of (table_of straight.tree)) → Joins (reach_of G s) (join_of G J s) (rows_of (table_of straight.tree)) found (rows_of (table_of after.tree)) → v ≡ wire_of (rows_of (table_of after.tree)) → seen after ≡ with_tree (seen straight) (rows_of (table_of after.tree)) → JoinedAnswer (cut (joining G J s)) (seen b) (seen after) (Ok v)
 joined_told G J s b straight after a found w v r t e j k h =
-    let rows = rows_of after.tree in
-    (r.0, (r.1.0, (r.1.1.0, (a.p, a.q, rows, r.1.1.1, joined_tree (reach_of G s) (join_of G J s) b a.p a.q found w (rows_of straight.tree) rows t j, k, h ∙ ap (λ (n : State). with_tree n rows) e))))
+    let rows = rows_of (table_of after.tree) in
+    (r.0, (r.1.0, (r.1.1.0, (a.p, a.q, rows, r.1.1.1, joined_tree (reach_of G s) (join_of G J s) b a.p a.q found w (rows_of (table_of straight.tree)) rows t j, k, h ∙ ap (λ (n : State). with_tree n rows) e))))

@@ -19,7 +19,7 @@ use Rattle.tree.specs.declared.table.Table.{Table}
 use Rattle.tree_laws.specs.declared.Row.{Row}
 use Rattle.walk_laws.specs.Walk.{Rules}
 use Rattle.walk.specs.declared.allowance.Allowance.{Allowance}
-use Rattle.net.specs.Nets.{ReadyAnswer, seen}
+use Rattle.net.specs.Nets.{ReadyAnswer, seen, table_of}
 use Rattle.net.specs.declared.board.Board.{Board}
 
 pub straight_count : (R : Rules) (place : ℕ → Spot) (n : ℕ) (E : List Edge) (found : List ℕ) (w : ℕ) (rows : List Row) → StraightBy R place n E found w rows → length rows ≡ n
@@ -42,5 +42,5 @@ straight_tree d b p q found w rows s =
     record { planted = h.walked.planted; built = h.rows ∙ ap (λ S. straight (rules_of d spots b.pins p q) S (spot_of spots) (length spots)) h.walked.is }
 
 -- a build of a board that is ready answers as a net asks
-pub straight_told : {X : Type 0} (G : Ghosts X) (s : X) (b after : Board) (a : Allowance) (found : List ℕ) (w : ℕ) → ReadyAnswer (seen b) (Ok a) → Straightened (reach_of G s) (vec_items b.spots) a.p a.q b.pins (nodes_of b.seed) (edges_of b.seed) found w (rows_of after.tree) → seen after ≡ with_tree (seen b) (rows_of after.tree) → StraightAnswer (cut (wiring G s)) (seen b) (seen after) (Ok w)
-straight_told G s b after a found w r t e = (r.0, (r.1.0, (r.1.1.0, (a.p, a.q, rows_of after.tree, r.1.1.1, straight_tree (reach_of G s) b a.p a.q found w (rows_of after.tree) t, t.wire, e))))
+pub straight_told : {X : Type 0} (G : Ghosts X) (s : X) (b after : Board) (a : Allowance) (found : List ℕ) (w : ℕ) → ReadyAnswer (seen b) (Ok a) → Straightened (reach_of G s) (vec_items b.spots) a.p a.q b.pins (nodes_of b.seed) (edges_of b.seed) found w (rows_of (table_of after.tree)) → seen after ≡ with_tree (seen b) (rows_of (table_of after.tree)) → StraightAnswer (cut (wiring G s)) (seen b) (seen after) (Ok w)
+straight_told G s b after a found w r t e = (r.0, (r.1.0, (r.1.1.0, (a.p, a.q, rows_of (table_of after.tree), r.1.1.1, straight_tree (reach_of G s) b a.p a.q found w (rows_of (table_of after.tree)) t, t.wire, e))))

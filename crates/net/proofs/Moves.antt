@@ -1,5 +1,5 @@
 -- A tree that stands, and what a share move makes of it. Assumes nothing.
-use Rattle.std.proofs.Common.{◌≡◌, ℕ, ◌+◌, ◌≤◌, Bool, true, is_ok, is_err, is_some, List, length, Some, None, Ok, Err, Option, Result, vec_items, sym, ap, ◌∙◌, arith}
+use Rattle.std.proofs.Common.{◌≡◌, ℕ, ◌+◌, true, is_ok, is_err, is_some, List, length, Some, None, Ok, Err, Option, Result, vec_items, sym, refl, ap, ◌∙◌, arith}
 use Rattle.net_laws.specs.Answers.{ShareAnswer, Stands}
 use Rattle.net_laws.specs.States.{State}
 use Rattle.net_laws.specs.Worlds.{cut, joining}
@@ -20,6 +20,7 @@ use Rattle.tree_laws.specs.declared.Row.{Row}
 use Rattle.tree_laws.proofs.Adding.{add_length}
 use Rattle.tree_laws.proofs.Hanging.{hang_length}
 use Rattle.net.specs.Nets.{ratio_of, seen, standing}
+use Rattle.net.specs.declared.board.holding.Tree.TheVariants.{Standing}
 use Rattle.net.specs.declared.board.Board.{Board}
 
 pub not_none : (o : Option (List Row)) (rows : List Row) → o ≡ Some rows → o ≡ None → ⊥
@@ -28,8 +29,8 @@ not_none o rows p q = let z : ◌≡◌ {A = ℕ} 0 1 = cc in omega arith
 only : (o : Option (List Row)) (rows other : List Row) → o ≡ Some rows → o ≡ Some other → rows ≡ other
 only o rows other p q = cc
 
-pub stands : (b : Board) → true ≡ b.built → Stands (seen b) (rows_of b.tree)
-stands b e = ap (λ x. standing x (rows_of b.tree)) (sym e)
+pub stands : (b : Board) (t : Table) → b.tree ≡ Standing t → Stands (seen b) (rows_of t)
+stands b t e = ap standing e
 
 pub hooked_same : {X : Type 0} (G : Ghosts X) (s : X) (t₀ : Table) (o : Option ℕ) (t : Table) → Hooked G s t₀ o t → (r : Result ℕ Fault) → is_ok r ≡ is_some o → is_err r ≡ true → t ≡ t₀
 hooked_same G s t₀ None t h r e f = h.2
@@ -43,27 +44,21 @@ shared_length rows d j m =
     let two = hang one m.a (length rows) (d z (spot_of rows m.a)) in
     hang_length two m.b (length rows) (d z (spot_of rows m.b)) ∙ hang_length one m.a (length rows) (d z (spot_of rows m.a)) ∙ add_length rows m.v z (d (spot_of rows m.v) z)
 
-pub shared_keeps : {X : Type 0} (G : Ghosts X) (J : JoinGhosts X) (s : X) (t₀ : Table) (r : Result ℕ Unshared) (t : Table) → Shared G J s t₀ r t → length (rows_of t₀) ≤ length (rows_of t)
-shared_keeps G J s t₀ (Err Nothing) t h = omega (arith, ap (λ (x : Table). length (rows_of x)) h.2)
-shared_keeps G J s t₀ (Err Full) t h = omega (arith, ap (λ (x : Table). length (rows_of x)) h.1)
-shared_keeps G J s t₀ (Ok w) t h = omega (arith, ap length h.shared, shared_length (rows_of t₀) (reach_of G s) (join_of G J s) h.move)
-
 -- the board with the table t in the place of its own
 abbrev with_table : Board → Table → State
-with_table b t = record { spots = vec_items b.spots; pins = b.pins; allowance = ratio_of b.allowance; edges = edges_of b.seed; tree = standing b.built (rows_of t) }
+with_table b t = record { spots = vec_items b.spots; pins = b.pins; allowance = ratio_of b.allowance; edges = edges_of b.seed; tree = Some (rows_of t) }
 
-pub share_saves : {X : Type 0} (G : Ghosts X) (J : JoinGhosts X) (s : X) (b : Board) (t : Table) (w : ℕ) → true ≡ b.built → Saved G J s (rows_of b.tree) w (rows_of t) → ShareAnswer (cut (joining G J s)) (seen b) (with_table b t) (Ok w)
-share_saves G J s b t w up h =
-    let rows = rows_of b.tree in
-    let st = stands b up in
-    let after : Bool → State = λ x. record { spots = vec_items b.spots; pins = b.pins; allowance = ratio_of b.allowance; edges = edges_of b.seed; tree = standing x (rows_of t) } in
+pub share_saves : {X : Type 0} (G : Ghosts X) (J : JoinGhosts X) (s : X) (b : Board) (t₀ t : Table) (w : ℕ) → b.tree ≡ Standing t₀ → Saved G J s (rows_of t₀) w (rows_of t) → ShareAnswer (cut (joining G J s)) (seen b) (with_table b t) (Ok w)
+share_saves G J s b t₀ t w up h =
+    let rows = rows_of t₀ in
+    let st = stands b t₀ up in
     let more : length (rows_of t) ≡ length rows + 1 = ap length h.shared ∙ shared_length rows (reach_of G s) (join_of G J s) h.move in (
       λ none. not_none (seen b).tree rows st none,
       (
         (rows, st, (h.move, h.best.0)),
         (
           λ other at. let same : rows ≡ other = only (seen b).tree rows other st at in omega (arith, ap length same, more, t.few),
-          (rows, rows_of t, st, record { move = h.move; best = h.best; saves = sym h.saving; shared = h.shared }, ap after (sym up)),
+          (rows, rows_of t, st, record { move = h.move; best = h.best; saves = sym h.saving; shared = h.shared }, refl),
         ),
       ),
     )

@@ -5,10 +5,10 @@ use Rattle.space.specs.declared.Joining.{Ghosts as JoinGhosts}
 use Rattle.space.specs.declared.Space.{Ghosts}
 use Rattle.space.specs.declared.spot.Spot.{Spot}
 use Rattle.span.specs.Lengths.{length_of}
-use Rattle.net_laws.specs.Answers.{AllowAnswer, Answers, EdgeAnswer, HookAnswer, JoinAnswers, JoinedAnswer, PinAnswer, ShareAnswer, SpanBy, SteinerAnswer, StraightAnswer, Unchanged, World}
+use Rattle.net_laws.specs.Answers.{Answers, EdgeAnswer, HookAnswer, JoinAnswers, JoinedAnswer, PinAnswer, ShareAnswer, SpanBy, SteinerAnswer, StraightAnswer, Unchanged, World}
 use Rattle.net_laws.specs.States.{State, unseeded}
 use Rattle.net_laws.specs.Worlds.{Keeps, Whole, cut, joining, wiring}
-use Rattle.net_laws.specs.declared.call.Call.TheVariants.{Pin, Allow, Steiner, Edge, Unseed, Span, Straight, Hook}
+use Rattle.net_laws.specs.declared.call.Call.TheVariants.{Pin, Steiner, Edge, Unseed, Span, Straight, Hook}
 use Rattle.net_laws.specs.declared.call.JoinCall.TheVariants.{Wire, Joined, Share}
 use Rattle.net_laws.specs.declared.fault.Fault.{Fault}
 use Rattle.net_laws.proofs.Owning.{own_edge, own_hook, own_joined, own_pin, own_share, own_span, own_straight}
@@ -62,11 +62,6 @@ module _ {X : Type 0} (G : Ghosts X) (s : X) (law : G.width s ≤ limit → Metr
 
   pub whole_unseed : m ≡ unseeded n → Whole G s n → Whole G s m
   whole_unseed e t = tied_step W laws n m (Wire Unseed) (Ok 0) t (e, tt, refl)
-
-  -- an answer that is no number
-  pub whole_allow : (p q : ℕ) (r : Result (Unit {0}) Fault) → AllowAnswer (cut (wiring G s)) n m p q r → Unchanged r n m → Whole G s n → AllowAnswer (wiring G s) n m p q r × Whole G s m
-  whole_allow p q (Ok x) a u t = (a, tied_step W laws n m (Wire (Allow p q)) (Ok 0) t (a, tt, refl))
-  whole_allow p q (Err e) a u t = (a, tied_step W laws n m (Wire (Allow p q)) (Err e) t (a, u, tt))
 
 module _ {X : Type 0} (G : Ghosts X) (J : JoinGhosts X) (s : X) (law : G.width s ≤ limit → Metric (G.admitted s) (G.width s) (G.between s)) (meets : G.width s ≤ limit → Meets (G.admitted s) (G.between s) (J.meeting s)) (n m : State) where
   pub whole_share : (r : Result ℕ Fault) → ShareAnswer (cut (joining G J s)) n m r → Unchanged r n m → Whole G s n → JoinAnswers (joining G J s) n m Share r × Whole G s m

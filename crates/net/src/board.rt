@@ -1,6 +1,8 @@
-ghost use Rattle.std.specs.Prelude.{◌≡◌, ◌+◌, ◌≤◌, true, length, vec_capacity};
+ghost use Rattle.std.specs.Prelude.{◌≡◌, ◌+◌, ◌≤◌, length, vec_capacity};
 ghost use Rattle.seed.specs.Seeds.{nodes_of};
 ghost use Rattle.tree.specs.Tables.{rows_of};
+ghost use Rattle.tree.specs.declared.table.Table.{Table};
+ghost use Rattle.net.specs.declared.board.holding.Tree.TheVariants.{Standing};
 
 use seed::Seed;
 use space::Spot;
@@ -10,9 +12,11 @@ mod asking;
 mod building;
 mod changing;
 mod growing;
+mod holding;
 mod moving;
 mod standing;
 
+pub(crate) use holding::Tree;
 pub(crate) use standing::Built;
 
 /// The most pins that a net can have.
@@ -22,7 +26,7 @@ pub(crate) const PINS: usize = 256;
 pub(crate) const POINTS: usize = 256;
 
 /// What a net holds but its space: the spots of the nodes, pins first and then Steiner points, how many of them are pins, the allowance, the
-/// edges, and the tree, which stands where `built` says so.
+/// edges, and the tree.
 #[derive(Drop)]
 pub struct Board {
     spots: Vec<Spot>,
@@ -30,14 +34,12 @@ pub struct Board {
     pins: usize,
     allowance: Option<Allowance>,
     seed: Seed,
-    // Kept: an `Option` would give the memory of the tree back where none stands, and all memory is reserved when a net is made.
-    built: bool,
-    tree: tree::Table,
+    tree: Tree,
     ghost room: { 512 ≤ vec_capacity spots },
     ghost first: { pins ≤ length spots.items },
     ghost few: { pins ≤ 256 },
     ghost points: { length spots.items ≤ pins + 256 },
     ghost nodes: { nodes_of seed ≡ length spots.items },
-    ghost tall: { (built ≡ true → length spots.items ≤ length (rows_of tree)) },
-    ghost two: { (built ≡ true → 2 ≤ pins) },
+    ghost tall: { (t : Table) → tree ≡ Standing t → length spots.items ≤ length (rows_of t) },
+    ghost two: { (t : Table) → tree ≡ Standing t → 2 ≤ pins },
 }

@@ -1,4 +1,4 @@
-ghost use Rattle.std.specs.Prelude.{◌≡◌, ◌+◌, ◌≤◌, true, length};
+ghost use Rattle.std.specs.Prelude.{◌≡◌, ◌+◌, ◌≤◌, length};
 ghost use Rattle.build_laws.specs.Joining.{Joins};
 ghost use Rattle.joined.specs.Joinings.{Joinable};
 ghost use Rattle.net_laws.specs.States.{with_tree};
@@ -8,9 +8,10 @@ ghost use Rattle.straight.specs.Built.{Straightened};
 ghost use Rattle.tree.specs.Hooks.{reach_of};
 ghost use Rattle.tree.specs.Tables.{rows_of};
 ghost use Rattle.tree_laws.specs.Trees.{wire_of};
-ghost use Rattle.net.specs.Nets.{ReadyAnswer, seen};
+ghost use Rattle.net.specs.Nets.{ReadyAnswer, seen, table_of};
+ghost use Rattle.net.specs.declared.board.holding.Tree.TheVariants.{Standing};
 
-use super::Board;
+use super::{Board, Tree};
 use joined::Joiner;
 use net_laws::Fault;
 use space::{Joining, Space};
@@ -39,20 +40,17 @@ impl Board {
     ) -> u64
         requires two { 2 ≤ self.old.pins }
         requires whole { length (edges_of self.old.seed) + 1 ≡ length self.old.spots.items }
-        ensures straight { Straightened (reach_of S.Space space.now) self.old.spots.items allowance.p allowance.q self.old.pins (nodes_of self.old.seed) (edges_of self.old.seed) builder.new.broken.items result (rows_of self.new.tree) }
-        ensures stands { self.new.built ≡ true }
-        ensures seen { seen self.new ≡ with_tree (seen self.old) (rows_of self.new.tree) }
+        ensures straight { Straightened (reach_of S.Space space.now) self.old.spots.items allowance.p allowance.q self.old.pins (nodes_of self.old.seed) (edges_of self.old.seed) builder.new.broken.items result (rows_of (table_of self.new.tree)) }
+        ensures stands { self.new.tree ≡ Standing (table_of self.new.tree) }
+        ensures seen { seen self.new ≡ with_tree (seen self.old) (rows_of (table_of self.new.tree)) }
     {
+        self.tree.stand();
+        // The tree stands now; the builder fills its table anew.
+        let Tree::Standing(table) = &mut self.tree else {
+            unreachable!()
+        };
         let spots = self.spots.as_slice();
-        let wire = builder.straight(
-            space,
-            spots,
-            self.pins,
-            allowance,
-            &self.seed,
-            &mut self.tree,
-        );
-        self.built = true;
+        let wire = builder.straight(space, spots, self.pins, allowance, &self.seed, table);
         wire.unwrap_or(0)
     }
 
@@ -63,12 +61,15 @@ impl Board {
         joiner: &mut Joiner,
         members: &[usize],
     ) -> u64
-        requires stands { self.old.built ≡ true }
-        requires joinable { Joinable (rows_of self.old.tree) members.now }
-        ensures joins { Joins (reach_of S.Space space.now) (join_of S.Space S.Joining.own space.now) (rows_of self.old.tree) members.now (rows_of self.new.tree) }
-        ensures wire { result ≡ wire_of (rows_of self.new.tree) }
-        ensures seen { seen self.new ≡ with_tree (seen self.old) (rows_of self.new.tree) }
+        requires stands { self.old.tree ≡ Standing (table_of self.old.tree) }
+        requires joinable { Joinable (rows_of (table_of self.old.tree)) members.now }
+        ensures joins { Joins (reach_of S.Space space.now) (join_of S.Space S.Joining.own space.now) (rows_of (table_of self.old.tree)) members.now (rows_of (table_of self.new.tree)) }
+        ensures wire { result ≡ wire_of (rows_of (table_of self.new.tree)) }
+        ensures seen { seen self.new ≡ with_tree (seen self.old) (rows_of (table_of self.new.tree)) }
     {
-        joiner.join(space, &mut self.tree, members).unwrap_or(0)
+        let Tree::Standing(table) = &mut self.tree else {
+            unreachable!()
+        };
+        joiner.join(space, table, members).unwrap_or(0)
     }
 }

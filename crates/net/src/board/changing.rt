@@ -4,7 +4,7 @@ ghost use Rattle.net_laws.specs.States.{fresh, unseeded, with_allowance, with_ed
 ghost use Rattle.seed.specs.Seeds.{edges_of};
 ghost use Rattle.net.specs.Nets.{seen};
 
-use super::{Board, PINS, POINTS};
+use super::{Board, PINS, POINTS, Tree};
 use seed::Seed;
 use space::Spot;
 use std::alloc::{AllocError, Global};
@@ -18,14 +18,13 @@ impl Board {
     {
         let spots = Vec::with_capacity(heap, PINS + POINTS)?;
         let seed = Seed::new(heap)?;
-        let tree = Table::new(heap, Spot::default())?;
+        let table = Table::new(heap, Spot::default())?;
         Ok(Board {
             spots,
             pins: 0,
             allowance: None,
             seed,
-            built: false,
-            tree,
+            tree: Tree::Idle(table),
         })
     }
 
@@ -35,7 +34,7 @@ impl Board {
     {
         self.spots.truncate(self.pins);
         let _ = self.seed.restart(self.pins);
-        self.built = false;
+        self.tree.idle();
     }
 
     /// Sets the allowance and drops the tree.
@@ -43,7 +42,7 @@ impl Board {
         ensures { seen self.new ≡ with_allowance (seen self.old) allowance.p allowance.q }
     {
         self.allowance = Some(allowance);
-        self.built = false;
+        self.tree.idle();
     }
 
     /// Adds a pin in place of Steiner points, edges and tree, and answers its number.
@@ -57,7 +56,7 @@ impl Board {
         self.spots.push_reserved(spot);
         let _ = self.seed.restart(pin + 1);
         self.pins = pin + 1;
-        self.built = false;
+        self.tree.idle();
         pin
     }
 
@@ -68,7 +67,7 @@ impl Board {
         ensures added { seen self.new ≡ with_point (seen self.old) spot }
     {
         let point = self.spots.len();
-        self.built = false;
+        self.tree.idle();
         self.spots.push_reserved(spot);
         let _ = self.seed.add_node();
         point
@@ -83,6 +82,6 @@ impl Board {
         ensures { seen self.new ≡ with_edge (seen self.old) a b long }
     {
         let _ = self.seed.join(a, b, long);
-        self.built = false;
+        self.tree.idle();
     }
 }

@@ -4,7 +4,7 @@ ghost use Rattle.net_laws.specs.Worlds.{cut, joining, wiring};
 ghost use Rattle.net_laws.specs.declared.fault.Fault.TheVariants.{NoTree};
 ghost use Rattle.net.specs.Nets.{seen};
 
-use super::Board;
+use super::{Board, Tree};
 use net_laws::Fault;
 use share::share_best;
 use space::{Joining, Space};
@@ -17,8 +17,10 @@ impl Board {
         ensures unchanged { is_err result ≡ true → self.new ≡ self.old }
         ensures untouched { result ≡ Err NoTree → refiner.new ≡ refiner.old }
     {
-        let _ = self.standing()?;
-        refiner.hook(space, &mut self.tree).ok_or(Fault::NoMove)
+        let Tree::Standing(table) = &mut self.tree else {
+            return Err(Fault::NoTree);
+        };
+        refiner.hook(space, table).ok_or(Fault::NoMove)
     }
 
     /// Makes the best share move of the tree and answers what it saves.
@@ -26,7 +28,9 @@ impl Board {
         ensures answer { ShareAnswer (cut (joining S.Space S.Joining.own space.now)) (seen self.old) (seen self.new) result }
         ensures unchanged { is_err result ≡ true → self.new ≡ self.old }
     {
-        let _ = self.standing()?;
-        Ok(share_best(space, &mut self.tree)?)
+        let Tree::Standing(table) = &mut self.tree else {
+            return Err(Fault::NoTree);
+        };
+        Ok(share_best(space, table)?)
     }
 }

@@ -3,7 +3,7 @@ use Rattle.build_laws.specs.Joining.{Joins}
 use Rattle.joined.specs.Joinings.{Joinable}
 use Rattle.net_laws.specs.Worlds.{joining}
 use Rattle.net_laws.proofs.Sparing.{joined_bounds, joined_shorter, joined_spared}
-use Rattle.net.specs.Nets.{seen}
+use Rattle.net.specs.Nets.{seen, table_of}
 use Rattle.net.proofs.Nets.{same_net}
 use Rattle.net.proofs.Owned.{joining_keeps_lem, whole_joined}
 use Rattle.share.specs.Shares.{join_of}
@@ -18,7 +18,7 @@ returns-in_err-allowance-clause-unchanged g c = λ e. same_net _ _ refl refl ref
 pub join-requires : goal.join-requires
 join-requires g c =
     let b = c.args.self.now.board in
-    let P : List ℕ → Type 0 = λ xs. Joinable (rows_of c.straight.new.self.tree) xs in
+    let P : List ℕ → Type 0 = λ xs. Joinable (rows_of (table_of c.straight.new.self.tree)) xs in
     record {
       stands = c.straight.ensures.stands;
       joinable = subst P (sym c.broken-broken.ensures) (straight_joinable _ _ _ _ _ _ _ c.straight.ensures.straight (omega (arith, b.nodes, b.points, b.few)));
@@ -33,7 +33,7 @@ invariant_of-self-2 g c =
     let law = g.met.S.Space.metric s in
     let meets = g.met.S.Joining.meets s in
     let t = c.straight.ensures in
-    let P : List ℕ → Type 0 = λ xs. Joins (reach_of G s) (join_of G J s) (rows_of c.straight.new.self.tree) xs (rows_of c.join.new.self.tree) in
+    let P : List ℕ → Type 0 = λ xs. Joins (reach_of G s) (join_of G J s) (rows_of (table_of c.straight.new.self.tree)) xs (rows_of (table_of c.join.new.self.tree)) in
     let x = joined_told G J s n.board c.straight.new.self c.join.new.self c.in_ok-allowance.allowance _ c.straight.result c.join.result c.in_ok-allowance.ensures t.straight t.seen (subst P c.broken-broken.ensures c.join.ensures.joins) c.join.ensures.wire c.join.ensures.seen in
     let whole = whole_joined G J s law meets (seen n.board) (seen c.join.new.self) (Ok c.join.result) x tt n.whole in
     record { whole = whole.1 }
@@ -47,7 +47,7 @@ returns g c =
     let law = g.met.S.Space.metric s in
     let meets = g.met.S.Joining.meets s in
     let t = c.straight.ensures in
-    let P : List ℕ → Type 0 = λ xs. Joins (reach_of G s) (join_of G J s) (rows_of c.straight.new.self.tree) xs (rows_of c.join.new.self.tree) in
+    let P : List ℕ → Type 0 = λ xs. Joins (reach_of G s) (join_of G J s) (rows_of (table_of c.straight.new.self.tree)) xs (rows_of (table_of c.join.new.self.tree)) in
     let x = joined_told G J s n.board c.straight.new.self c.join.new.self c.in_ok-allowance.allowance _ c.straight.result c.join.result c.in_ok-allowance.ensures t.straight t.seen (subst P c.broken-broken.ensures c.join.ensures.joins) c.join.ensures.wire c.join.ensures.seen in
     let whole = whole_joined G J s law meets (seen n.board) (seen c.join.new.self) (Ok c.join.result) x tt n.whole in
     let laws = joining_keeps_lem G J s law meets in

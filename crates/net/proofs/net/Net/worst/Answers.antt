@@ -1,9 +1,10 @@
-use Rattle.std.proofs.Common.{◌≡◌, true, sym, subst}
+use Rattle.std.proofs.Common.{◌≡◌, subst}
 use Rattle.net_laws.specs.Readings.{WorstOf}
 use Rattle.span.specs.Lengths.{length_of}
 use Rattle.tree.specs.Tables.{rows_of}
 use Rattle.net.specs.Nets.{seen}
 use Rattle.net.specs.declared.board.Board.{Board}
+use Rattle.net.specs.declared.board.holding.Tree.TheVariants.{Standing}
 use Rattle.net.proofs.Moves.{not_none, stands}
 use Rattle.net.proofs.Worsts.{worst_own}
 use Rattle.net.proofs.net.Net.worst.Goals as goal
@@ -13,11 +14,12 @@ returns g c =
     let n = c.args.self.now in
     let s = n.space in
     let b = n.board in
-    let rows = rows_of b.tree in
+    let t = c.in_ok-standing.field-0.table.now in
+    let rows = rows_of t in
     let e = c.in_ok-standing.ensures.some in
-    let Up : Board → Type 0 = λ x. x.built ≡ true in
-    let Worst : Board → Type 0 = λ x. WorstOf (length_of g.S.Space s) (seen x) (rows_of x.tree) c.worst.result in
-    let st = stands b (sym (subst Up e c.in_ok-standing.field-0.stands)) in
+    let Up : Board → Type 0 = λ x. x.tree ≡ Standing t in
+    let Worst : Board → Type 0 = λ x. WorstOf (length_of g.S.Space s) (seen x) rows c.worst.result in
+    let st = stands b t (subst Up e c.in_ok-standing.field-0.stands) in
     let w = subst Worst e c.worst.ensures in
     record {
       always = (not_none (seen b).tree rows st, (rows, st, w));

@@ -14,17 +14,17 @@ pub unwrap-requires : goal.unwrap-requires
 unwrap-requires g c =
     let b = c.args.self.now.board.now in
     let d = length_of g.S.Space c.args.space.now in
-    let rows = rows_of b.tree in
+    let rows = rows_of c.args.self.now.table.now in
     let pins = c.pins.ensures ∙ ap (λ (x : Board). x.pins) c.board.ensures in
     let (_, found, first) = c.first_found.ensures in
-    some_sink d (seen b) rows (b.two c.args.self.now.stands) c.first_found.result
+    some_sink d (seen b) rows (b.two c.args.self.now.table.now c.args.self.now.stands) c.first_found.result
     (first_sink d (seen b) rows c.pins.result c.first_found.result pins found first (λ k r h p. search rules))
 
 pub returns : goal.returns
 returns g c =
     let b = c.args.self.now.board.now in
     let d = length_of g.S.Space c.args.space.now in
-    let rows = rows_of b.tree in
+    let rows = rows_of c.args.self.now.table.now in
     let pins = c.pins.ensures ∙ ap (λ (x : Board). x.pins) c.board.ensures in
     let (_, found, first) = c.first_found.ensures in
     let Best : Option Worst → Type 0 = λ o. BestOf worst_before (Sink d (seen b) rows) o in
