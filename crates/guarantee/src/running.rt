@@ -1,7 +1,6 @@
 // Lists of calls, made on a net.
 ghost use Rattle.std.specs.Prelude.{◌≡◌, ℕ, ◌≤◌, min, map, length, take, Result as Answered, slice_index_or};
 ghost use Rattle.net.specs.Nets.{seen};
-ghost use Rattle.net_laws.specs.States.{fresh};
 ghost use Rattle.net_laws.specs.Worlds.{joining as joiningWorld, wiring as wiringWorld};
 ghost use Rattle.net_laws.specs.declared.fault.Fault.{Fault as Refusal};
 ghost use Rattle.guarantee.specs.Kept.{Kept, wired};
@@ -13,6 +12,8 @@ use space::{Joining, Space};
 
 /// Makes the calls on the net in their order, as many as there are places for their answers, and writes each answer down. Answers how many
 /// were made; the places past them stay.
+// Kept: the net, its calls and the places stay three parameters. Tried a struct that borrows all three: each clause then reads
+// `self.old.net.now.board`, and two more have to say that it borrows the same net and places afterwards.
 pub fn run<S: Space, C: NetCall<S>>(
     net: &mut Net<S>,
     calls: &[C],
@@ -39,7 +40,7 @@ pub struct Made {
 }
 
 /// The guarantee, whole: for every wiring space and every list of its calls, and for every joining space and every list of its calls, made in
-/// their order on a new net. `docs/guarantee.md` says it in words.
+/// their order. Each call is answered as its own contract says, and on a new net all that `docs/guarantee.md` says holds afterwards.
 pub fn guarantee<W: Space, J: Joining>(
     wiring: &mut Net<W>,
     calls: &[Call],
@@ -49,10 +50,12 @@ pub fn guarantee<W: Space, J: Joining>(
     joining_answers: &mut [Result<u64, Fault>],
 ) -> Made
     ensures wiring_count { result.wiring ≡ min (length calls.now) (length answers.old) }
-    ensures wiring { seen wiring.old.board ≡ fresh → Kept (wiringWorld W.Space wiring.old.space) fresh (wired (take result.wiring calls.now)) (take result.wiring answers.new) (seen wiring.new.board) }
+    ensures wiring { Kept (wiringWorld W.Space wiring.old.space) (seen wiring.old.board) (wired (take result.wiring calls.now)) (take result.wiring answers.new) (seen wiring.new.board) }
+    ensures wiring_rest { (k : ℕ) (d : Answered ℕ Refusal) → result.wiring ≤ k → slice_index_or answers.new k d ≡ slice_index_or answers.old k d }
     ensures wiring_stays { wiring.new.space ≡ wiring.old.space }
     ensures joining_count { result.joining ≡ min (length joining_calls.now) (length joining_answers.old) }
-    ensures joining { seen joining.old.board ≡ fresh → Kept (joiningWorld J.Space J.Joining.own joining.old.space) fresh (take result.joining joining_calls.now) (take result.joining joining_answers.new) (seen joining.new.board) }
+    ensures joining { Kept (joiningWorld J.Space J.Joining.own joining.old.space) (seen joining.old.board) (take result.joining joining_calls.now) (take result.joining joining_answers.new) (seen joining.new.board) }
+    ensures joining_rest { (k : ℕ) (d : Answered ℕ Refusal) → result.joining ≤ k → slice_index_or joining_answers.new k d ≡ slice_index_or joining_answers.old k d }
     ensures joining_stays { joining.new.space ≡ joining.old.space }
 {
     let first = run(wiring, calls, answers);

@@ -9,7 +9,6 @@ use space::Space;
 use span::Spanner;
 use std::alloc::{AllocError, Global};
 use straight::Builder;
-use tree::Refiner;
 
 mod building;
 mod pinning;
@@ -21,7 +20,6 @@ mod seeding;
 #[derive(Drop)]
 struct Work {
     spanner: Spanner,
-    refiner: Refiner,
     builder: Builder,
     joiner: Joiner,
 }
@@ -38,12 +36,10 @@ pub struct Net<S: Space> {
 impl Work {
     fn new(heap: Global) -> Result<Work, AllocError> {
         let spanner = Spanner::new(heap)?;
-        let refiner = Refiner::new(heap)?;
         let builder = Builder::new(heap)?;
         let joiner = Joiner::new(heap)?;
         Ok(Work {
             spanner,
-            refiner,
             builder,
             joiner,
         })

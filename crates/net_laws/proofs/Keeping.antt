@@ -90,6 +90,7 @@ module _ (W : World) (laws : Keeps W) where
   LaidOver nodes rows =
       ((k : ℕ) → k < length nodes → (k < length rows) × (spot_of rows k ≡ spot_at nodes k))
       × ((up rows 0 ≡ 0) × (length_of rows 0 ≡ 0))
+      × ((k : ℕ) → k < length rows → up rows k < length rows)
       × ((k : ℕ) → k < length rows → (k ≡ 0 → ⊥) → length_of rows k ≡ W.between (spot_of rows (up rows k)) (spot_of rows k))
 
   abbrev Within : List Spot → (p q : ℕ) → List Row → Type 0
@@ -100,11 +101,11 @@ module _ (W : World) (laws : Keeps W) where
   Bounded p q Seed rows = (E : List Edge) → Seed E → p * wire_of rows ≤ (p + 2 * q) * wire E
 
   abbrev Shorter : List Spot → (start rows : List Row) → Type 0
-  Shorter pins start rows = (k : ℕ) → k < length pins → path_length rows k ≤ path_length start k
+  Shorter pins start rows = (k : ℕ) → k < length pins → Hung start k × (path_length rows k ≤ path_length start k)
 
   module _ (n : State) (log : Log) (g : Guarantee W log n) (t : Tied W.admitted W.width W.between n) where
     relaid : (ev : Event) {rows : List Row} → LaidOver (nodes_of (ev ∷ log)) rows → Laid W (ev ∷ log) rows
-    relaid ev l = record { nodes = l.0; driver = l.1; lengths = l.2 }
+    relaid ev l = record { nodes = l.0; driver = l.1; parents = l.2; lengths = l.3 }
 
     front_is : take n.pins n.spots ≡ pins_of log
     front_is = ap (take n.pins) g.nodes ∙ take_at (pins_of log) (points_of log) n.pins (sym g.pins)
@@ -121,6 +122,7 @@ module _ (W : World) (laws : Keeps W) where
             let i : k < length n.spots = omega (arith, ap length g.nodes) in
             (omega (arith, p.more), p.spots k i ∙ ap (λ xs. spot_at xs k) g.nodes),
         (p.tree.driver, p.tree.still),
+        p.tree.parents,
         p.lengths,
       )
 
@@ -166,7 +168,7 @@ module _ (W : World) (laws : Keeps W) where
       moved_savings = omega (arith, stood.savings, ap wire_of rows_are, saved)
 
       moved_paths : NoPathGrows log stood.start after
-      moved_paths k h = omega (arith, stood.paths k h, ap (λ xs. path_length xs k) rows_are, falls k (row_before k h))
+      moved_paths k h = ((stood.paths k h).0, omega (arith, (stood.paths k h).1, ap (λ xs. path_length xs k) rows_are, falls k (row_before k h)))
 
     -- ---- calls that drop the tree
 
@@ -264,7 +266,7 @@ module _ (W : World) (laws : Keeps W) where
               first_rows = r.first_rows;
               last_rows = ap (λ x. x.tree) same ∙ r.last_rows;
             };
-            laid = record { nodes = b.laid.nodes; driver = b.laid.driver; lengths = b.laid.lengths };
+            laid = record { nodes = b.laid.nodes; driver = b.laid.driver; parents = b.laid.parents; lengths = b.laid.lengths };
             allowed = b.allowed;
             bound = b.bound;
             savings = b.savings;
@@ -357,7 +359,7 @@ module _ (W : World) (laws : Keeps W) where
               allowed = by (λ e. Within (pins_after e (pins_of log)) x y rows) (allowed_now rows p x y within);
               bound = by (λ e. Bounded x y (SeedAfter W.between (pins_of log) e (SeedOf W.between log)) rows) (bound_now rows p x y bounded);
               savings = omega (arith, wired);
-              paths = λ k h. omega arith;
+              paths = by (λ e. Shorter (pins_after e (pins_of log)) rows rows) (λ k h. (hung p.tree k (row_of_pin rows p k h), omega arith));
             };
           }
 

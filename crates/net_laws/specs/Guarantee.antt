@@ -40,15 +40,16 @@ WireWithinBound W log p q rows = (E : List Edge) → SeedOf W.between log E → 
 abbrev pub SavingsAddUp : (since : Log) (w : ℕ) → List Row → Type 0
 SavingsAddUp since w rows = w ≡ wire_of rows + savings_of since
 
--- No pin's path is longer than right after the build.
+-- No pin's path is longer than right after the build, where it hung on the driver by exactly one path too.
 abbrev pub NoPathGrows : Log → (start rows : List Row) → Type 0
-NoPathGrows log start rows = (k : ℕ) → k < length (pins_of log) → path_length rows k ≤ path_length start k
+NoPathGrows log start rows = (k : ℕ) → k < length (pins_of log) → Hung start k × (path_length rows k ≤ path_length start k)
 
--- The rows lie in the space: each node at the spot of its call, the driver's row is its own parent at length 0, and every other row's length is its
--- distance from its parent.
+-- The rows lie in the space: each node at the spot of its call, the driver's row is its own parent at length 0, every parent is a row, and every
+-- other row's length is its distance from its parent.
 pub record Laid (W : World) (log : Log) (rows : List Row) : Type 0 where
   pub nodes : (k : ℕ) → k < length (nodes_of log) → (k < length rows) × (spot_of rows k ≡ spot_at (nodes_of log) k)
   pub driver : (up rows 0 ≡ 0) × (length_of rows 0 ≡ 0)
+  pub parents : (k : ℕ) → k < length rows → up rows k < length rows
   pub lengths : (k : ℕ) → k < length rows → (k ≢ 0) → length_of rows k ≡ W.between (spot_of rows (up rows k)) (spot_of rows k)
 
 -- The rows are what the call row answers on the net n, and no number past them has one.

@@ -23,6 +23,13 @@ pub(crate) enum Said {
     Both,
 }
 
+// How far pin 1 and pin 2 are from the driver.
+#[derive(Clone, Copy, Default)]
+pub(crate) struct Away {
+    pub one: u64,
+    pub two: u64,
+}
+
 // Whether the answer is the refusal of this number; the first two are the space's.
 pub(crate) fn check_refused<T: Drop>(
     rt: &impl Abort,
@@ -39,29 +46,30 @@ pub(crate) fn check_refused<T: Drop>(
     }
 }
 
-// What is said, where pin 1 and pin 2 are so far from the driver.
-fn wanted(said: Said, one: u64, two: u64) -> Result<u64, u8> {
-    match said {
-        Said::Is(n) => Ok(n),
-        Said::No(number) => Err(number),
-        Said::One => Ok(one),
-        Said::Two => Ok(two),
-        Said::Both => Ok(one.saturating_add(two)),
+impl Said {
+    // What is said, where the pins are so far from the driver.
+    fn wanted(self, away: Away) -> Result<u64, u8> {
+        match self {
+            Said::Is(n) => Ok(n),
+            Said::No(number) => Err(number),
+            Said::One => Ok(away.one),
+            Said::Two => Ok(away.two),
+            Said::Both => Ok(away.one.saturating_add(away.two)),
+        }
     }
 }
 
-// Whether the answers are these, where pin 1 and pin 2 are so far from the driver.
+// Whether the answers are these, where the pins are so far from the driver.
 pub(crate) fn check_answers(
     rt: &impl Abort,
     answers: &[Result<u64, Fault>],
     expected: &[Said],
-    one: u64,
-    two: u64,
+    away: Away,
 ) {
     assert_eq!(rt; answers.len(), expected.len());
     for (i, (answer, said)) in answers.iter().zip(expected.iter()).enumerate() {
         let answer = answer.map_err(|fault| fault.number());
-        assert_eq!(rt; (i, answer), (i, wanted(*said, one, two)));
+        assert_eq!(rt; (i, answer), (i, said.wanted(away)));
     }
 }
 

@@ -1,5 +1,5 @@
 // Lists of calls over several spaces, with calls out of turn, repeated calls and refused ones among them.
-use crate::asking::{NONE, Said, check_answers};
+use crate::asking::{Away, NONE, Said, check_answers};
 use guarantee::{guarantee, run};
 use net::Net;
 use net_laws::{Call, JoinCall};
@@ -101,15 +101,14 @@ fn more_to(first: Spot, second: Spot) -> [JoinCall; 22] {
     more
 }
 
-// Both lists, with the pins at (3, 4) and (6, 8) on the level: the first `near` from the driver in the wiring space, in the joining space
-// `one` and the second `two`.
+// Both lists, with the pins at (3, 4) and (6, 8) on the level: so far from the driver in the wiring space, which takes no second one, and in
+// the joining space.
 fn check_lists<W: Space + Drop, J: Joining + Drop>(
     rt: &(impl Abort + AllocGlobal),
     wiring: W,
-    near: u64,
+    near: Away,
     joining: J,
-    one: u64,
-    two: u64,
+    far: Away,
     level: i32,
 ) -> Result<(), Fail> {
     let first = Spot { x: 3, y: 4, level };
@@ -128,15 +127,29 @@ fn check_lists<W: Space + Drop, J: Joining + Drop>(
         &mut others,
     );
     assert!(rt; made.wiring == 30 && made.joining == 22);
-    check_answers(rt, &answers, &CALLS.map(|(_, said)| said), near, 0);
-    check_answers(rt, &others, &MORE.map(|(_, said)| said), one, two);
+    check_answers(rt, &answers, &CALLS.map(|(_, said)| said), near);
+    check_answers(rt, &others, &MORE.map(|(_, said)| said), far);
     Ok(())
 }
 
 #[test]
 fn flat(rt: HostRuntime) -> Result<(), Fail> {
-    check_lists(&rt, Air, 5, Plane, 7, 14, 0)?;
-    check_lists(&rt, Plane, 7, Line, 3, 6, 0)
+    check_lists(
+        &rt,
+        Air,
+        Away { one: 5, two: 0 },
+        Plane,
+        Away { one: 7, two: 14 },
+        0,
+    )?;
+    check_lists(
+        &rt,
+        Plane,
+        Away { one: 7, two: 0 },
+        Line,
+        Away { one: 3, two: 6 },
+        0,
+    )
 }
 
 #[test]
@@ -153,8 +166,22 @@ fn lifted(rt: HostRuntime) -> Result<(), Fail> {
         below: plane,
         price: 3,
     };
-    check_lists(&rt, air, 85, plane, 87, 94, 2)?;
-    check_lists(&rt, lift, 13, lift, 13, 20, 2)
+    check_lists(
+        &rt,
+        air,
+        Away { one: 85, two: 0 },
+        plane,
+        Away { one: 87, two: 94 },
+        2,
+    )?;
+    check_lists(
+        &rt,
+        lift,
+        Away { one: 13, two: 0 },
+        lift,
+        Away { one: 13, two: 20 },
+        2,
+    )
 }
 
 #[test]
@@ -167,6 +194,11 @@ fn too_wide(rt: HostRuntime) -> Result<(), Fail> {
     let mut answers = [NONE; 4];
     let calls = REFUSED.map(|(call, _)| call);
     assert_eq!(rt; run(&mut net, &calls, &mut answers), 4);
-    check_answers(&rt, &answers, &REFUSED.map(|(_, said)| said), 0, 0);
+    check_answers(
+        &rt,
+        &answers,
+        &REFUSED.map(|(_, said)| said),
+        Away::default(),
+    );
     Ok(())
 }

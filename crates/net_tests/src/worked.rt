@@ -1,5 +1,5 @@
 // The worked nets, as calls.
-use crate::asking::{NONE, Said, check_answers};
+use crate::asking::{Away, NONE, Said, check_answers};
 use crate::refusals::check_standing;
 use guarantee::run;
 use net::Net;
@@ -149,7 +149,7 @@ fn net_of(
     let mut places = [NONE; 16];
     let made = run(&mut net, calls, &mut places);
     assert!(rt; made == calls.len() && made <= 16);
-    check_answers(rt, &places[0..made], expected, 0, 0);
+    check_answers(rt, &places[0..made], expected, Away::default());
     Ok(net)
 }
 

@@ -1,26 +1,24 @@
-ghost use Rattle.std.specs.Prelude.{◌≡◌, true, is_err, Err};
+ghost use Rattle.std.specs.Prelude.{◌≡◌, true, is_err};
 ghost use Rattle.net_laws.specs.Answers.{HookAnswer, ShareAnswer};
 ghost use Rattle.net_laws.specs.Worlds.{cut, joining, wiring};
-ghost use Rattle.net_laws.specs.declared.fault.Fault.TheVariants.{NoTree};
 ghost use Rattle.net.specs.Nets.{seen};
 
 use super::{Board, Tree};
 use net_laws::Fault;
 use share::share_best;
 use space::{Joining, Space};
-use tree::Refiner;
+use tree::hook_best;
 
 impl Board {
     /// Makes the best hook move of the tree and answers what it saves.
-    pub(crate) fn hook<S: Space>(&mut self, space: &S, refiner: &mut Refiner) -> Result<u64, Fault>
+    pub(crate) fn hook<S: Space>(&mut self, space: &S) -> Result<u64, Fault>
         ensures answer { HookAnswer (cut (wiring S.Space space.now)) (seen self.old) (seen self.new) result }
         ensures unchanged { is_err result ≡ true → self.new ≡ self.old }
-        ensures untouched { result ≡ Err NoTree → refiner.new ≡ refiner.old }
     {
         let Tree::Standing(table) = &mut self.tree else {
             return Err(Fault::NoTree);
         };
-        refiner.hook(space, table).ok_or(Fault::NoMove)
+        hook_best(space, table).ok_or(Fault::NoMove)
     }
 
     /// Makes the best share move of the tree and answers what it saves.

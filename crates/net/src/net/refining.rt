@@ -1,5 +1,4 @@
-ghost use Rattle.std.specs.Prelude.{◌≡◌, true, is_err, Err};
-ghost use Rattle.net_laws.specs.declared.fault.Fault.TheVariants.{NoTree};
+ghost use Rattle.std.specs.Prelude.{◌≡◌, true, is_err};
 ghost use Rattle.net_laws.specs.Answers.{Answers, HookAnswer, JoinAnswers, ShareAnswer};
 ghost use Rattle.net_laws.specs.declared.call.Call.TheVariants.{Hook as HookCall};
 ghost use Rattle.net_laws.specs.declared.call.JoinCall.TheVariants.{Share as ShareCall};
@@ -14,12 +13,11 @@ impl<S: Space> Net<S> {
     /// Makes the best hook move of the tree and answers what it saves.
     pub fn hook(&mut self) -> Result<u64, Fault>
         ensures always { HookAnswer (cut (wiring S.Space self.old.space)) (seen self.old.board) (seen self.new.board) result }
-        ensures unchanged { is_err result ≡ true → self.new.board ≡ self.old.board }
-        ensures untouched { result ≡ Err NoTree → self.new ≡ self.old }
+        ensures unchanged { is_err result ≡ true → self.new ≡ self.old }
         ensures answer { Answers (wiring S.Space self.old.space) (seen self.old.board) (seen self.new.board) HookCall result }
         ensures stays { self.new.space ≡ self.old.space }
     {
-        self.board.hook(&self.space, &mut self.work.refiner)
+        self.board.hook(&self.space)
     }
 }
 

@@ -1,8 +1,8 @@
-ghost use Rattle.std.specs.Prelude.{◌≡◌, true, is_err};
+ghost use Rattle.std.specs.Prelude.{◌≡◌, true, is_err, Ok};
 ghost use Rattle.net_laws.specs.Answers.{Answers, EdgeAnswer, SpanBy, SteinerAnswer};
-ghost use Rattle.net_laws.specs.declared.call.Call.TheVariants.{Edge as EdgeCall, Span as SpanCall, Steiner as SteinerCall};
+ghost use Rattle.net_laws.specs.declared.call.Call.TheVariants.{Edge as EdgeCall, Span as SpanCall, Steiner as SteinerCall, Unseed as UnseedCall};
 ghost use Rattle.net_laws.specs.States.{unseeded};
-ghost use Rattle.net_laws.specs.Worlds.{Whole, cut, wiring};
+ghost use Rattle.net_laws.specs.Worlds.{cut, wiring};
 ghost use Rattle.span.specs.Lengths.{length_of};
 ghost use Rattle.net.specs.Nets.{seen};
 
@@ -55,7 +55,7 @@ impl<S: Space> Net<S> {
     /// Drops the Steiner points, the edges and the tree.
     pub fn unseed(&mut self)
         ensures always { seen self.new.board ≡ unseeded (seen self.old.board) }
-        ensures whole { Whole S.Space self.old.space (seen self.new.board) }
+        ensures answer { Answers (wiring S.Space self.old.space) (seen self.old.board) (seen self.new.board) UnseedCall (Ok 0) }
         ensures stays { self.new.space ≡ self.old.space }
     {
         self.board.drop_seed();

@@ -1,4 +1,4 @@
-use Rattle.std.proofs.Common.{is_err, refl, ap}
+use Rattle.std.proofs.Common.{refl, ap}
 use Rattle.net.specs.Nets.{seen}
 use Rattle.net.proofs.Nets.{same_net}
 use Rattle.net.proofs.Owned.{unchanged_by, whole_hook}
@@ -20,8 +20,5 @@ returns-clause-answer g c =
     let t = c.hook.ensures in
     (whole_hook g.S.Space s (g.met.S.Space.metric s) (seen n.board) m c.hook.result t.answer (unchanged_by c.hook.result (seen n.board) m (λ e. ap seen (t.unchanged e))) n.whole).0
 
-pub returns-clause-untouched : goal.returns-clause-untouched
-returns-clause-untouched g c = λ e.
-    let t = c.hook.ensures in
-    let w = c.args.self.now.work in
-    same_net _ _ refl (t.unchanged (ap is_err e)) (λ i. record { spanner = w.spanner; refiner = t.untouched e i; builder = w.builder; joiner = w.joiner })
+pub returns-clause-unchanged : goal.returns-clause-unchanged
+returns-clause-unchanged g c = λ e. same_net _ _ refl (c.hook.ensures.unchanged e) refl
