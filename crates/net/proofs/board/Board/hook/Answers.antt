@@ -5,4 +5,4 @@ use Rattle.net.proofs.Moves.{hooked_same}
 use Rattle.net.proofs.board.Board.hook.Goals as goal
 
 pub returns-clause-unchanged : goal.returns-clause-unchanged
-returns-clause-unchanged g c = λ e. same_board _ _ refl refl refl refl (ap Standing (hooked_same g.S.Space c.args.space.now c.in-Standing.table c.hook.result c.hook.new.table c.hook.ensures.answer c.ok_or.result c.ok_or.ensures.variant e) ∙ sym c.in-Standing.is)
+returns-clause-unchanged g c = λ e. same_board _ _ refl refl refl refl (ap Standing (hooked_same g.S.Space c.args.space.now c.in-Standing.table c.hook_best.result c.hook_best.new.table c.hook_best.ensures.answer c.ok_or.result c.ok_or.ensures.variant e) ∙ sym c.in-Standing.is)
