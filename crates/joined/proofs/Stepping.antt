@@ -1,6 +1,7 @@
 -- One step of joining: what the group and its first pairs are then. Assumes nothing.
 use Rattle.std.proofs.Common.{◌≡◌, ℕ, ◌+◌, ◌<◌, ◌≤◌, true, ◌⊎◌, List, [], ◌∷◌, ◌++◌, length, get_or, filter, sym, refl, ap, ◌∙◌, subst, inl, inr, ⊎_elim, arith}
 use Rattle.std.proofs.lemmas.List.{length_push}
+use Rattle.std.proofs.lemmas.List.Kept.{IsStrictlyIncreasing-filter}
 use Rattle.std.proofs.lemmas.Bool.{cases_eq}
 use Rattle.order.specs.Firsts.{Among}
 use Rattle.order.specs.Firsts.Among.{here}
@@ -14,10 +15,11 @@ use Rattle.build_laws.specs.Joining.{Farthest, PairOf, far_of, meet_group, meet_
 use Rattle.build_laws.specs.Joining.Joins.{join}
 use Rattle.build_laws.proofs.Joined.{among_kept}
 use Rattle.joined.specs.declared.pair.Pair.{Pair}
-use Rattle.joined.specs.Joinings.{Joinable, Standing, Stepped, others}
+use Rattle.joined.specs.Joinings.{Joinable, Rising, Standing, Stepped, others}
 use Rattle.joined.specs.Pairs.{Firsts, Partner, Ready}
 use Rattle.joined.proofs.Keeping.{among_here, kept_among, kept_two_less, others_first, others_not, others_second, others_yes}
-use Rattle.joined.proofs.Rising.{rising_few}
+use Rattle.joined.proofs.Partnering.{then_lead}
+use Rattle.joined.proofs.Rising.{rising_few, rising_push}
 
 -- ---- the rows and the group after a step
 
@@ -110,6 +112,12 @@ module _ (d : Spot → Spot → ℕ) (j : Spot → Spot → Spot → Spot) (rows
       subst P (sym e) (record { row = omega (arith, step_length); moves = λ z. omega (arith, t.some); parent = ap (λ (r : Row). r.parent) row_new }))
       (member_of g i)
 
+  -- the new row's number is above all others
+  pub step_rising : Rising group → Rising left
+  step_rising r =
+      rising_push (filter (others a b) group) (length rows) (IsStrictlyIncreasing-filter (others a b) group r)
+      (λ x i. (hung x (among_kept (others a b) group x i).0).row)
+
   pub step_shorter : length left + 1 ≤ length group
   step_shorter =
       omega (
@@ -145,6 +153,7 @@ module _ (d : Spot → Spot → ℕ) (j : Spot → Spot → Spot → Spot) (rows
               let h = f.each old i in
               record {
                 member = λ na nb. old_member old.b h.member na nb;
+                near = λ na nb n r. then_lead old.far n.far _ (h.best.1 n (partner_back old.b h.member n r));
                 stays = λ na nb ma mb. (partner_on old.b h.member old h.best.0 ma mb, λ n r. h.best.1 n (partner_back old.b h.member n r));
               };
           member = new_member;
@@ -173,6 +182,7 @@ module _ (d : Spot → Spot → ℕ) (j : Spot → Spot → Spot → Spot) (rows
       let n = step_length d j rows t group s.hung a b q in
       record {
         hung = step_hung d j rows t group s.hung a b q;
+        rising = step_rising d j rows t group s.hung a b q s.rising;
         room = omega (arith, s.room, n, step_shorter d j rows t group s.hung a b q);
         few = omega (arith, s.few, n, h);
         firsts = f;
@@ -185,6 +195,9 @@ module _ (d : Spot → Spot → ℕ) (j : Spot → Spot → Spot → Spot) (rows
 
     pub shorter_at : length group' + 1 ≤ length group
     shorter_at = omega (arith, ap length grouped, step_shorter d j rows t group s.hung a b q)
+
+    pub rising_at : Rising group'
+    rising_at = subst Rising (sym grouped) (step_rising d j rows t group s.hung a b q s.rising)
 
     pub ready_at : (olds : List Pair) → olds ≡ F → Ready d j rows' group' a b new olds
     ready_at olds eo =
@@ -215,4 +228,4 @@ standing_start d j rows group F t h f few =
     rising_few group (length rows) h.rising
     (λ k l. ⊎_elim (λ (e : get_or group k 0 ≡ 0). absurd ((at k l).moves e)) (λ (ne : get_or group k 0 ≡ 0 → ⊥). omega arith) (cases_eq (get_or group k 0) 0))
     (λ k l. (at k l).row) t.some in
-    record { hung = h.hung; room = h.room; few = omega arith; firsts = f }
+    record { hung = h.hung; rising = h.rising; room = h.room; few = omega arith; firsts = f }

@@ -67,11 +67,12 @@ module _ (d : Spot → Spot → ℕ) (j : Spot → Spot → Spot → Spot) where
   -- The group can be joined, and F holds the first pair of each member.
   pub record Standing (rows : List Row) (group : List ℕ) (F : List Pair) : Type 0 where
     pub hung : (g : ℕ) → Among g group → Child rows 0 g
+    pub rising : Rising group
     pub room : length rows + length group ≤ 768
     pub few : length F < length rows
     pub firsts : Firsts d j rows group F
 
-  -- Asked for one step, the answer is r: no two members have a meet off the driver, or the first pair was joined.
+  -- Asked for one step, the answer is r: every meet of two members is 0 from the driver, or the first pair was joined.
   abbrev pub Stepped : List Row → List ℕ → Bool → (after : List Row) → (left : List ℕ) → List Pair → Type 0
   Stepped rows group false after left F = (after ≡ rows) × ((a b : ℕ) → PairOf d j group a b → far_of d j rows a b ≡ 0)
   Stepped rows group true after left F =

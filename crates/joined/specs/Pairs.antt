@@ -1,6 +1,6 @@
 -- Pairs of members of a group of rows on the driver, and the first pair of each member. `d` is the distance of two spots, and `j o a b` the meet
 -- of a and b seen from o. Assumes nothing.
-use Rattle.std.specs.Prelude.{◌≡◌, ℕ, ◌<◌, Bool, ◌⊎◌, List, length, Some, None, Option, ◌≢◌, nat_lt, slice_index}
+use Rattle.std.specs.Prelude.{◌≡◌, ℕ, ◌<◌, ◌≤◌, Bool, ◌⊎◌, List, length, Some, None, Option, ◌≢◌, nat_lt, slice_index}
 use Rattle.order.specs.Firsts.{Among}
 use Rattle.order.specs.Orders.{then_by}
 use Rattle.space.specs.declared.spot.Spot.{Spot}
@@ -37,6 +37,10 @@ module _ (d : Spot → Spot → ℕ) (j : Spot → Spot → Spot → Spot) where
     pub lower : p.a < b
     pub is : p ≡ pair_of rows p.a b
 
+  -- No pair of b with a lower member is farther than f.
+  abbrev pub NoFarther : List Row → List ℕ → (b f : ℕ) → Type 0
+  NoFarther rows group b f = (p : Pair) → Partner rows group b p → p.far ≤ f
+
   -- p is the first of the pairs of a member with lower ones.
   pub record Held (rows : List Row) (group : List ℕ) (p : Pair) : Type 0 where
     pub member : Among p.b group
@@ -53,10 +57,11 @@ module _ (d : Spot → Spot → ℕ) (j : Spot → Spot → Spot → Spot) where
 
   -- ---- a and b have gone from the group
 
-  -- The first pair of a member is still that where neither of the two has gone.
+  -- The first pair of a member is still that where neither of the two has gone, and no pair of a member that is left is farther than its old one.
   pub record Stale (rows : List Row) (group : List ℕ) (a b : ℕ) (old : Pair) : Type 0 where
     pub member : (old.b ≢ a) → (old.b ≢ b) → Among old.b group
     pub stays : (old.b ≢ a) → (old.b ≢ b) → (old.a ≢ a) → (old.a ≢ b) → BestOf pair_before (Partner rows group old.b) (Some old)
+    pub near : (old.b ≢ a) → (old.b ≢ b) → NoFarther rows group old.b old.far
 
   -- The first pair of the member of an old pair, unless it has gone.
   abbrev pub Again : List Row → List ℕ → (a b : ℕ) → Pair → Option Pair → Type 0

@@ -4,12 +4,13 @@ ghost use Rattle.order.specs.Bests.{BestOf};
 ghost use Rattle.tree.specs.Hooks.{reach_of};
 ghost use Rattle.tree.specs.Tables.{rows_of};
 ghost use Rattle.share.specs.Shares.{join_of};
-ghost use Rattle.joined.specs.Pairs.{Again, Firsts, Partner, PartnerAt, Ready, Stale, pair_before, pair_of};
+ghost use Rattle.joined.specs.Joinings.{Rising};
+ghost use Rattle.joined.specs.Pairs.{Again, Firsts, NoFarther, Partner, PartnerAt, Ready, Stale, pair_before, pair_of};
 
 use crate::pair::Pair;
-use order::first_found;
+use order::Rank;
 use share::join;
-use space::Joining;
+use space::{Joining, LONGEST};
 use tree::{Table, reach};
 
 /// The members of a group, the table of their rows, and the space that measures it.
@@ -19,6 +20,7 @@ pub(crate) struct Group<'a, S: Joining> {
     pub table: &'a Table,
     pub members: &'a [usize],
     ghost few: { length members.now ≤ 768 },
+    ghost rising: { Rising members.now },
 }
 
 /// What a step does to the group: the members `a` and `b` go, and `new` comes.
@@ -54,11 +56,23 @@ impl<'a, S: Joining> Group<'a, S> {
         Some(self.pair(a, b))
     }
 
-    /// The first of the pairs of `b` with a lower member.
-    fn first_of(&self, b: usize) -> Option<Pair>
-        ensures { BestOf pair_before (Partner (reach_of S.Space self.now.space.now) (join_of S.Space S.Joining.own self.now.space.now) (rows_of self.now.table.now) self.now.members.now b) result }
+    /// The first of the pairs of `b` with a lower member, of which none is farther than `most`. The members rise, so the search ends at the
+    /// first pair that is as far as that.
+    fn first_of(&self, b: usize, most: u64) -> Option<Pair>
+        ensures { NoFarther (reach_of S.Space self.now.space.now) (join_of S.Space S.Joining.own self.now.space.now) (rows_of self.now.table.now) self.now.members.now b most → BestOf pair_before (Partner (reach_of S.Space self.now.space.now) (join_of S.Space S.Joining.own self.now.space.now) (rows_of self.now.table.now) self.now.members.now b) result }
     {
-        first_found(self.members.len(), |i| self.partner(i, b))
+        let mut first: Option<Pair> = None;
+        for i in 0..self.members.len() {
+            if let Some(pair) = self.partner(i, b) {
+                if pair.far == most {
+                    return Some(pair);
+                }
+                if first.map_or(true, |best| pair.precedes(&best)) {
+                    first = Some(pair);
+                }
+            }
+        }
+        first
     }
 
     /// The first pair of each member that has a lower one.
@@ -70,7 +84,7 @@ impl<'a, S: Joining> Group<'a, S> {
     {
         partners.clear();
         for &member in self.members {
-            if let Some(found) = self.first_of(member) {
+            if let Some(found) = self.first_of(member, LONGEST) {
                 partners.push_reserved(found);
             }
         }
@@ -85,7 +99,7 @@ impl<'a, S: Joining> Group<'a, S> {
             return None;
         }
         if old.a == a || old.a == b {
-            return self.first_of(old.b);
+            return self.first_of(old.b, old.far);
         }
         Some(old)
     }
@@ -110,7 +124,7 @@ impl<'a, S: Joining> Group<'a, S> {
         ensures room { vec_capacity partners.new ≡ vec_capacity partners.old }
     {
         partners.retain_mut(|pair| self.refresh(pair, change));
-        if let Some(found) = self.first_of(change.new) {
+        if let Some(found) = self.first_of(change.new, LONGEST) {
             partners.push_reserved(found);
         }
     }

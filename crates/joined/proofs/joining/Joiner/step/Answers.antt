@@ -9,7 +9,7 @@ use Rattle.joined.specs.Joinings.{others}
 use Rattle.joined.specs.Pairs.{Firsts, pair_before}
 use Rattle.joined.proofs.Keeping.{kept_few}
 use Rattle.joined.proofs.Partnering.{best_farthest, best_near, best_none, firsts_best}
-use Rattle.joined.proofs.Stepping.{ready_at, shorter_at, step_parts, stepped_at}
+use Rattle.joined.proofs.Stepping.{ready_at, rising_at, shorter_at, step_parts, stepped_at}
 use Rattle.joined.proofs.joining.Joiner.step.Goals as goal
 
 pub returns-in_default : goal.returns-in_default
@@ -60,8 +60,8 @@ push_reserved-requires g c =
       c.args.table.now.tree.some,
     )
 
-pub invariant_of-group : goal.invariant_of-group
-invariant_of-group g c =
+pub invariant_of-group-clause-few : goal.invariant_of-group-clause-few
+invariant_of-group-clause-few g c =
     let t = c.args.table.now in
     let rows = rows_of t in
     let d = reach_of g.S.Space c.args.space.now in
@@ -76,6 +76,23 @@ invariant_of-group g c =
     let e : left ≡ filter (others p.a p.b) group ++ c.in-Some-part.new ∷ [] =
     c.as_slice-2.ensures.value ∙ c.push_reserved.ensures.items ∙ ap (λ xs. xs ++ c.in-Some-part.new ∷ []) c.leave.ensures.items in
     omega (arith, shorter_at d j rows t.tree group F c.requires p.a p.b best.0.pair (rows_of c.part.new.table) left c.in-Some-part.new parted.2 parted.1 e, c.requires.room)
+
+pub invariant_of-group-clause-rising : goal.invariant_of-group-clause-rising
+invariant_of-group-clause-rising g c =
+    let t = c.args.table.now in
+    let rows = rows_of t in
+    let d = reach_of g.S.Space c.args.space.now in
+    let j = join_of g.S.Space g.S.Joining c.args.space.now in
+    let group = vec_items c.args.self.now.group in
+    let F = vec_items c.args.self.now.partners in
+    let p = c.in-Some.pair in
+    let P : List Pair → Type 0 = λ xs. FirstOf pair_before xs (Some p) in
+    let best = firsts_best d j rows group F (Some p) c.requires.firsts (subst P c.as_slice.ensures.value c.in-Some.ensures.first) in
+    let parted = c.in-Some-part.ensures in
+    let left = c.as_slice-2.result.now in
+    let e : left ≡ filter (others p.a p.b) group ++ c.in-Some-part.new ∷ [] =
+    c.as_slice-2.ensures.value ∙ c.push_reserved.ensures.items ∙ ap (λ xs. xs ++ c.in-Some-part.new ∷ []) c.leave.ensures.items in
+    rising_at d j rows t.tree group F c.requires p.a p.b best.0.pair (rows_of c.part.new.table) left c.in-Some-part.new parted.2 parted.1 e
 
 pub renew-requires-clause-ready : goal.renew-requires-clause-ready
 renew-requires-clause-ready g c =

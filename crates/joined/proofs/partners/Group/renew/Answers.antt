@@ -4,7 +4,7 @@ use Rattle.tree.specs.Hooks.{reach_of}
 use Rattle.tree.specs.Tables.{rows_of}
 use Rattle.joined.specs.declared.pair.Pair.{Pair}
 use Rattle.joined.specs.Pairs.{Firsts}
-use Rattle.joined.proofs.Partnering.{renewed, renewed_none, renewed_some}
+use Rattle.joined.proofs.Partnering.{never_farther, renewed, renewed_none, renewed_some}
 use Rattle.joined.proofs.partners.Group.renew.Goals as goal
 
 pub returns-in-Some-clause-firsts : goal.returns-in-Some-clause-firsts
@@ -17,9 +17,10 @@ returns-in-Some-clause-firsts g c =
     let b = c.args.change.b in
     let olds = vec_items c.args.partners.now in
     let F = vec_items c.retain_mut.new.self in
+    let none = never_farther g.S.Space c.args.self.now.space.now j rows group c.args.change.new in
     let P : List Pair → Type 0 = λ G. Firsts d j rows group G in
     let f = renewed d j rows group a b _ _ (λ x k t y q. search rules) olds F c.retain_mut.ensures.filtered c.requires.ready.stale in
-    subst P (sym c.push_reserved.ensures.items) (renewed_some d j rows group a b c.args.change.new olds c.requires.ready F f c.in-Some.found c.in-Some.ensures)
+    subst P (sym c.push_reserved.ensures.items) (renewed_some d j rows group a b c.args.change.new olds c.requires.ready F f c.in-Some.found (c.in-Some.ensures none))
 
 pub returns-in_default-clause-firsts : goal.returns-in_default-clause-firsts
 returns-in_default-clause-firsts g c =
@@ -31,5 +32,6 @@ returns-in_default-clause-firsts g c =
     let b = c.args.change.b in
     let olds = vec_items c.args.partners.now in
     let F = vec_items c.retain_mut.new.self in
+    let none = never_farther g.S.Space c.args.self.now.space.now j rows group c.args.change.new in
     let f = renewed d j rows group a b _ _ (λ x k t y q. search rules) olds F c.retain_mut.ensures.filtered c.requires.ready.stale in
-    renewed_none d j rows group a b c.args.change.new olds c.requires.ready F f c.in_default.ensures
+    renewed_none d j rows group a b c.args.change.new olds c.requires.ready F f (c.in_default.ensures none)

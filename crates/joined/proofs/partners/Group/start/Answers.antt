@@ -6,7 +6,7 @@ use Rattle.tree.specs.Hooks.{reach_of}
 use Rattle.tree.specs.Tables.{rows_of}
 use Rattle.joined.specs.declared.pair.Pair.{Pair}
 use Rattle.joined.specs.Pairs.{FirstsOf}
-use Rattle.joined.proofs.Partnering.{firsts_push, firsts_same, held}
+use Rattle.joined.proofs.Partnering.{firsts_push, firsts_same, held, never_farther}
 use Rattle.joined.proofs.Keeping.{among_here, among_next}
 use Rattle.joined.proofs.partners.Group.start.Goals as goal
 use Rattle.joined.proofs.partners.Group.start.Goals.{in-Some, in_default}
@@ -24,16 +24,17 @@ loop-member-preserved g c =
     let C : ℕ → Type 0 = λ b. Among b (take (i + 1) group) in
     let P : List Pair → Type 0 = λ F. FirstsOf d j rows group C F in
     let h = c.loop-member-test.true in
+    let none = never_farther g.S.Space c.args.self.now.space.now j rows group x in
     elim c.match-first_of.branch [
       | in-Some w ↦
-          let b = w.in-Some.ensures in
+          let b = w.in-Some.ensures none in
           rw w.partners-is (
             subst P (sym w.push_reserved.ensures.items) (firsts_push d j rows group B C x (λ y m p q. among_next group i 0 h y m) old c.loop-member.invariant.0 w.in-Some.found (held d j rows group x w.in-Some.found (among_here group i 0 h) b) b.0.second),
             omega (arith, w.push_reserved.ensures.len, c.loop-member.invariant.1),
             w.push_reserved.ensures.capacity ∙ c.loop-member.invariant.2,
           )
       | in_default w ↦
-          rw w.partners-is (firsts_same d j rows group B C x (λ y m p q. among_next group i 0 h y m) old c.loop-member.invariant.0 w.in_default.ensures, omega (arith, c.loop-member.invariant.1), c.loop-member.invariant.2)
+          rw w.partners-is (firsts_same d j rows group B C x (λ y m p q. among_next group i 0 h y m) old c.loop-member.invariant.0 (w.in_default.ensures none), omega (arith, c.loop-member.invariant.1), c.loop-member.invariant.2)
     ]
 
 pub returns-clause-firsts : goal.returns-clause-firsts
