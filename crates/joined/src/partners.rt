@@ -56,8 +56,8 @@ impl<'a, S: Joining> Group<'a, S> {
         Some(self.pair(a, b))
     }
 
-    /// The first of the pairs of `b` with a lower member, of which none is farther than `most`. The members rise, so the search ends at the
-    /// first pair that is as far as that.
+    /// The first of the pairs of `b` with a lower member, none of which is farther than `most`. The members rise, so the search ends at a pair
+    /// that is as far as that.
     fn first_of(&self, b: usize, most: u64) -> Option<Pair>
         ensures { NoFarther (reach_of S.Space self.now.space.now) (join_of S.Space S.Joining.own self.now.space.now) (rows_of self.now.table.now) self.now.members.now b most → BestOf pair_before (Partner (reach_of S.Space self.now.space.now) (join_of S.Space S.Joining.own self.now.space.now) (rows_of self.now.table.now) self.now.members.now b) result }
     {
@@ -90,7 +90,8 @@ impl<'a, S: Joining> Group<'a, S> {
         }
     }
 
-    /// The first pair of a member after a step: nothing where the member has gone, searched anew where its partner has, else as it was.
+    /// The first pair of a member after a step: nothing where the member has gone, else as it was unless its partner has gone. Then it is
+    /// searched anew, and is no farther than it was, since fewer lower members are left.
     fn again(&self, old: Pair, change: Change) -> Option<Pair>
         ensures { Stale (reach_of S.Space self.now.space.now) (join_of S.Space S.Joining.own self.now.space.now) (rows_of self.now.table.now) self.now.members.now change.a change.b old → Again (reach_of S.Space self.now.space.now) (join_of S.Space S.Joining.own self.now.space.now) (rows_of self.now.table.now) self.now.members.now change.a change.b old result }
     {
