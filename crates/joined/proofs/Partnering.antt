@@ -1,6 +1,6 @@
 -- The first of the pairs of one member, and the firsts of all members. Assumes nothing.
-use Rattle.std.proofs.Common.{◌≡◌, ℕ, suc, ◌<◌, ◌≤◌, Bool, true, false, cond, ltb, ◌⊎◌, List, [], ◌∷◌, ◌++◌, length, Some, None, Option, sym, refl, ap, ◌∙◌, subst, inl, inr, ⊎_elim, arith}
-use Rattle.std.proofs.lemmas.Bool.{both_ways, cases_Bool, cases_eq, cases_lt, cond-true, le-ltb, ltb-false}
+use Rattle.std.proofs.Common.{◌≡◌, ℕ, ◌<◌, ◌≤◌, Bool, true, false, cond, ltb, ◌⊎◌, List, [], ◌∷◌, ◌++◌, length, Some, None, Option, IsSomeAnd, sym, refl, ap, ◌∙◌, subst, inl, inr, ⊎_elim, arith}
+use Rattle.std.proofs.lemmas.Bool.{both_ways, cases_Bool, cases_lt, cond-true, le-ltb, ltb-false}
 use Rattle.order.specs.Orders.{then_by}
 use Rattle.order.specs.Firsts.{Among, FirstOf}
 use Rattle.order.specs.Firsts.Among.{here, there}
@@ -10,10 +10,9 @@ use Rattle.space.specs.declared.Space.{Ghosts}
 use Rattle.space.specs.declared.spot.Spot.{Spot}
 use Rattle.tree_laws.specs.declared.Row.{Row}
 use Rattle.tree.specs.Hooks.{reach_of}
-use Rattle.order.specs.Bests.{BestOf, Decides, Found}
-use Rattle.order.specs.Bests.Found.{finds, skips, start}
+use Rattle.order.specs.Bests.{BestOf, Decides}
 use Rattle.order.specs.Lexical.{then_above, then_level}
-use Rattle.order.proofs.Deciding.{decides_first, found_best, found_decides}
+use Rattle.order.proofs.Deciding.{Below, decides_first}
 use Rattle.build_laws.specs.Joining.{Farthest, PairOf, far_of}
 use Rattle.joined.specs.declared.pair.Pair.{Pair}
 use Rattle.joined.specs.Pairs.{Again, Firsts, FirstsOf, Held, Lasting, NoFarther, PairIn, Partner, PartnerAt, Ready, Stale, pair_before, pair_of}
@@ -72,62 +71,29 @@ module _ (d : Spot → Spot → ℕ) (j : Spot → Spot → Spot → Spot) (rows
 
   -- ---- the search for the first pair of one member
 
-  -- What was found at the places below n: r is the first of it, and nothing of it is as far as f.
-  pub record Searched (group : List ℕ) (b f n : ℕ) (r : Option Pair) : Type 0 where
-    pub pairs : List Pair
-    pub found : Found (λ i q. BestOf pair_before (PartnerAt d j rows group b i) q) n pairs
-    pub first : FirstOf pair_before pairs r
-    pub other : (p : Pair) → Among p pairs → p.far ≡ f → ⊥
-
-  module _ (group : List ℕ) (b f : ℕ) where
-    pub searched_start : Searched group b f 0 None
-    searched_start = record { pairs = []; found = start; first = refl; other = λ p i. absurd (among_none i) }
-
-    pub searched_none : (n : ℕ) (r : Option Pair) → Searched group b f n r → BestOf pair_before (PartnerAt d j rows group b n) None → Searched group b f (suc n) r
-    searched_none n r s q = record { pairs = s.pairs; found = skips s.found q; first = s.first; other = s.other }
-
-    module _ (n : ℕ) (r : Option Pair) (s : Searched group b f n r) (p : Pair) (q : BestOf pair_before (PartnerAt d j rows group b n) (Some p)) where
-      pub searched_some : (p.far ≡ f → ⊥) → (t : Option Pair) → FirstOf pair_before (s.pairs ++ p ∷ []) t → Searched group b f (suc n) t
-      searched_some ne t first =
-          record {
-            pairs = s.pairs ++ p ∷ [];
-            found = finds s.found q;
-            first = first;
-            other = λ m i.
-                ⊎_elim
-                (λ (k : Among m s.pairs). s.other m k)
-                (λ (k : Among m (p ∷ [])). λ e. ne (ap (λ (z : Pair). z.far) (sym (among_one k)) ∙ e))
-                (among_either s.pairs (p ∷ []) i);
-          }
-
-      -- what is as far as a pair can be is the first where nothing before it is
-      pub searched_far : Rising group → NoFarther d j rows group b f → p.far ≡ f → BestOf pair_before (Partner d j rows group b) (Some p)
-      searched_far rising most e = (partner_every group b n p q.0, last)
-        where
-          last : (m : Pair) → Partner d j rows group b m → pair_before m p ≡ false
-          last m h =
-              let k = partner_number group b m h in
-              ⊎_elim
-              (λ (l : k.0 < n).
-              let c = found_decides (PartnerAt d j rows group b) s.found (λ i o z g. g) in
-              let w = c.beaten m (k.0, l, k.2) in
-              let v = c.within w.0 w.1 in
-              let near = then_lead w.0.far m.far _ w.2 in
-              let some : m.far < p.far = ⊎_elim (λ (z : w.0.far ≡ f). absurd (s.other w.0 w.1 z)) (λ (z : w.0.far ≡ f → ⊥). omega (arith, near, most w.0 (partner_every group b v.0 w.0 v.2), e)) (cases_eq w.0.far f) in
-              then_above p.far m.far _ some)
-              (λ (l : n ≤ k.0).
-              pair_not m p
-              (omega (arith, most m h, e))
-              (omega (arith, rising_later group rising n k.0 l k.1, k.2.member, q.0.member))
-              (omega (arith, h.second, ap (λ (z : Pair). z.b) q.0.is)))
-              (cases_lt k.0 n)
-
-    pub searched_all : (n : ℕ) (r : Option Pair) → n ≡ length group → Searched group b f n r → BestOf pair_before (Partner d j rows group b) r
-    searched_all n r e s =
-        found_best (PartnerAt d j rows group b) (Partner d j rows group b) pair_order r s.found s.first
-        (λ i p h q. partner_every group b i p q)
-        (λ p q. let k = partner_number group b p q in (k.0, omega (arith, k.1, e), k.2))
-        (λ i o h q. q)
+  -- A search over the places from 0 up that ended at n: what is first of the pairs found there is the first of all, where all places were passed or it
+  -- is as far as a pair can be.
+  module _ (group : List ℕ) (b f : ℕ) (rising : Rising group) (most : NoFarther d j rows group b f) (Enough : Pair → Type 0) (far : (p : Pair) → Enough p → p.far ≡ f) where
+    pub until_best : (n : ℕ) (r : Option Pair) → BestOf pair_before (Below (PartnerAt d j rows group b) n) r → (n ≡ length group) ⊎ IsSomeAnd r Enough → BestOf pair_before (Partner d j rows group b) r
+    until_best n None q (inl e) = λ m h. let k = partner_number group b m h in q m (k.0, omega (arith, k.1, e), k.2)
+    until_best n None q (inr z) = absurd z
+    until_best n (Some p) q ends = (partner_every group b q.0.0 p q.0.2, least)
+      where
+        least : (m : Pair) → Partner d j rows group b m → pair_before m p ≡ false
+        least m h =
+            let k = partner_number group b m h in
+            ⊎_elim
+            (λ (l : k.0 < n). q.1 m (k.0, l, k.2))
+            (λ (l : n ≤ k.0).
+            ⊎_elim
+            (λ (e : n ≡ length group). absurd (omega (arith, k.1, l, e)))
+            (λ (z : Enough p).
+            pair_not m p
+            (omega (arith, most m h, far p z))
+            (omega (arith, rising_later group rising q.0.0 k.0 (omega (arith, q.0.1, l)) k.1, k.2.member, q.0.2.member))
+            (omega (arith, h.second, ap (λ (z : Pair). z.b) q.0.2.is)))
+            ends)
+            (cases_lt k.0 n)
 
   -- ---- the firsts of several members
 

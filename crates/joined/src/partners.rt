@@ -8,7 +8,7 @@ ghost use Rattle.joined.specs.Joinings.{Rising};
 ghost use Rattle.joined.specs.Pairs.{Again, Firsts, NoFarther, Partner, PartnerAt, Ready, Stale, pair_before, pair_of};
 
 use crate::pair::Pair;
-use order::Rank;
+use order::first_until;
 use share::join;
 use space::{Joining, LONGEST};
 use tree::{Table, reach};
@@ -61,18 +61,11 @@ impl<'a, S: Joining> Group<'a, S> {
     fn first_of(&self, b: usize, most: u64) -> Option<Pair>
         ensures { NoFarther (reach_of S.Space self.now.space.now) (join_of S.Space S.Joining.own self.now.space.now) (rows_of self.now.table.now) self.now.members.now b most → BestOf pair_before (Partner (reach_of S.Space self.now.space.now) (join_of S.Space S.Joining.own self.now.space.now) (rows_of self.now.table.now) self.now.members.now b) result }
     {
-        let mut first: Option<Pair> = None;
-        for i in 0..self.members.len() {
-            if let Some(pair) = self.partner(i, b) {
-                if pair.far == most {
-                    return Some(pair);
-                }
-                if first.map_or(true, |best| pair.precedes(&best)) {
-                    first = Some(pair);
-                }
-            }
-        }
-        first
+        first_until(
+            self.members.len(),
+            |i| self.partner(i, b),
+            |pair| pair.far == most,
+        )
     }
 
     /// The first pair of each member that has a lower one.

@@ -6,4 +6,4 @@ mod link;
 mod search;
 
 pub use link::Link;
-pub use search::{Rank, first, first_found, first_of_pairs};
+pub use search::{Rank, first, first_found, first_of_pairs, first_until};

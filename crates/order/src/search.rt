@@ -1,5 +1,5 @@
-ghost use Rattle.std.specs.Prelude.{◌≡◌, ℕ, ◌<◌, Bool, List, slice_get};
-ghost use Rattle.order.specs.Bests.{FirstFound};
+ghost use Rattle.std.specs.Prelude.{◌≡◌, ℕ, ◌<◌, Bool, true, List, slice_get};
+ghost use Rattle.order.specs.Bests.{FirstFound, FirstUntil};
 ghost use Rattle.order.specs.Firsts.{Covers, FirstOf, Winners, together};
 ghost use Rattle.order.specs.Orders.{Order};
 
@@ -18,10 +18,27 @@ pub fn first_found<C: Rank + Copy, F: Fn(usize) -> Option<C>>(n: usize, find: F)
     requires { (i : ℕ) → i < n → F.pre find i }
     ensures { FirstFound C.Rank.before (F.post find) n result }
 {
+    first_until(n, find, |_| false)
+}
+
+/// The first of the candidates that `find` gives for the numbers from 0 up, but the search ends where the first so far is enough: no later
+/// candidate comes before that one, as the caller knows.
+pub fn first_until<C: Rank + Copy, F: Fn(usize) -> Option<C>, E: Fn(C) -> bool>(
+    n: usize,
+    find: F,
+    enough: E,
+) -> Option<C>
+    requires find { (i : ℕ) → i < n → F.pre find i }
+    requires enough { E.IsAlwaysCallable enough }
+    ensures { FirstUntil C.Rank.before (F.post find) (λ x. E.post enough x true) n result }
+{
     let mut first: Option<C> = None;
     for i in 0..n {
         if let Some(candidate) = find(i) {
             if first.map_or(true, |best| candidate.precedes(&best)) {
+                if enough(candidate) {
+                    return Some(candidate);
+                }
                 first = Some(candidate);
             }
         }

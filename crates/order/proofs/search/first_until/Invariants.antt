@@ -1,7 +1,7 @@
 use Rattle.std.proofs.Common.{List}
 use Rattle.order.specs.Bests.{Found}
 use Rattle.order.specs.Firsts.{FirstOf}
-use Rattle.order.proofs.search.first_found.Given as goal
+use Rattle.order.proofs.search.first_until.Given as goal
 
 -- the first so far is that of the candidates found so far
 abbrev pub invariant-loop-i : goal.invariant-loop-i
