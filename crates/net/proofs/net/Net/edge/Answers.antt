@@ -26,8 +26,3 @@ pub invariant_of-self-2 : goal.invariant_of-self-2
 invariant_of-self-2 g c =
     let n = c.args.self.now in
     record { whole = (whole_edge g.S.Space n.space (g.met.S.Space.metric n.space) (seen n.board) (seen c.add_edge.new.self) c.args.a c.args.b (Ok c.reach-length.result) (search rules) tt n.whole).1 }
-
-pub returns-clause-answer : goal.returns-clause-answer
-returns-clause-answer g c =
-    let n = c.args.self.now in
-    (whole_edge g.S.Space n.space (g.met.S.Space.metric n.space) (seen n.board) (seen c.add_edge.new.self) c.args.a c.args.b (Ok c.reach-length.result) (search rules) tt n.whole).0

@@ -20,8 +20,3 @@ pub invariant_of-self-2 : goal.invariant_of-self-2
 invariant_of-self-2 g c =
     let n = c.args.self.now in
     record { whole = (whole_pin g.S.Space n.space (g.met.S.Space.metric n.space) (seen n.board) (seen c.add_pin.new.self) c.args.spot (Ok c.add_pin.result) (search rules) tt n.whole).1 }
-
-pub returns-clause-answer : goal.returns-clause-answer
-returns-clause-answer g c =
-    let n = c.args.self.now in
-    (whole_pin g.S.Space n.space (g.met.S.Space.metric n.space) (seen n.board) (seen c.add_pin.new.self) c.args.spot (Ok c.add_pin.result) (search rules) tt n.whole).0
