@@ -1,69 +1,14 @@
--- The least neighbour, over one more edge.
-use Rattle.std.proofs.Common.{◌≡◌, ℕ, ◌+◌, ◌<◌, ◌≤◌, List, [], ◌∷◌, ◌++◌, Some, None, Option, sym, refl, ap, ◌∙◌, subst, ⊎_elim, arith}
-use Rattle.order.specs.Firsts.Among.{here}
-use Rattle.order.proofs.Finding.{among_right}
+-- The least neighbour is unique. Assumes nothing.
+use Rattle.std.proofs.Common.{◌≡◌, ℕ, ◌+◌, ◌≤◌, List, Some, None, Option, sym, refl, ap, ◌∙◌, subst, ⊎_elim, arith}
 use Rattle.forest.specs.declared.Edge.{Edge}
-use Rattle.forest.specs.Edges.{Between, Near, Joined}
+use Rattle.forest.specs.Edges.{Near, Joined}
 use Rattle.forest.specs.Rooted.{Forest}
 use Rattle.forest.specs.Rooted.Forest.{none, kid}
-use Rattle.forest.specs.Growth.{Nothing, Least, LeastOf, Grows, head_of}
+use Rattle.forest.specs.Growth.{Least, LeastOf, Grows, head_of}
 use Rattle.forest.specs.Growth.Grows.{bare, grown}
-use Rattle.forest.proofs.Chains.{Newly, near_none, near_back, near_push, near_cases, joined_one}
+use Rattle.forest.proofs.Chains.{Newly, near_none, near_back, near_cases, joined_one}
 use Rattle.forest.proofs.Accepted.{Accepted}
 use Rattle.forest.proofs.Accepted.Accepted.{start, more}
-
-pub nothing_none : (v w c : ℕ) → Nothing [] v w c
-nothing_none v w c x k n le ne = near_none n
-
--- the new edge leads to no neighbour that counts
-pub nothing_stays : (E : List Edge) (e : Edge) (v w c : ℕ) → ((x : ℕ) → Between e v x → c ≤ x → (x ≡ w → ⊥) → ⊥) → Nothing E v w c → Nothing (E ++ e ∷ []) v w c
-nothing_stays E e v w c off h x k n le ne = ⊎_elim (λ m. h x k m le ne) (λ m. off x m.0 le ne) (near_cases E e n)
-
--- the new edge leads to no lower neighbour that counts
-pub least_stays : (E : List Edge) (e : Edge) (v w c u l : ℕ) → ((x : ℕ) → Between e v x → c ≤ x → (x ≡ w → ⊥) → u ≤ x) → Least E v w c u l → Least (E ++ e ∷ []) v w c u l
-least_stays E e v w c u l off h =
-    record {
-      near = near_push e h.near;
-      from = h.from;
-      other = h.other;
-      least = λ x k n le ne. ⊎_elim (λ m. h.least x k m le ne) (λ m. off x m.0 le ne) (near_cases E e n);
-    }
-
--- the new edge leads to u, and no edge before it to a lower neighbour that counts
-pub least_new : (E : List Edge) (e : Edge) (v w c u : ℕ) → Between e v u → ((x : ℕ) → Between e v x → x ≡ u) → c ≤ u → (u ≡ w → ⊥) →
-    ((x k : ℕ) → Near E v x k → c ≤ x → (x ≡ w → ⊥) → u ≤ x) → Least (E ++ e ∷ []) v w c u e.length
-least_new E e v w c u b one cu uw h =
-    record {
-      near = record { edge = e; stands = among_right E (e ∷ []) here; between = b; long = refl };
-      from = cu;
-      other = uw;
-      least = λ x k n le ne.
-          ⊎_elim (λ m. h x k m le ne) (λ m. let q : x ≡ u = one x m.0 in let z : u ≤ x = omega arith in z) (near_cases E e n);
-    }
-
--- ---- the same of a search's answer
-
-pub least_of_stays : (E : List Edge) (e : Edge) (v w c : ℕ) (r : Option (ℕ × ℕ)) → ((x : ℕ) → Between e v x → c ≤ x → (x ≡ w → ⊥) → ⊥) → LeastOf E v w c r → LeastOf (E ++ e ∷ []) v w c r
-least_of_stays E e v w c None off h = nothing_stays E e v w c off h
-least_of_stays E e v w c (Some p) off h = least_stays E e v w c p.0 p.1 (λ x b le ne. absurd (off x b le ne)) h
-
--- m was found, and the new edge leads to u, which is no lower
-pub least_of_keeps : (E : List Edge) (e : Edge) (v w c m k u : ℕ) (r : Option (ℕ × ℕ)) → r ≡ Some (m, k) → ((x : ℕ) → Between e v x → x ≡ u) → m ≤ u → LeastOf E v w c r → LeastOf (E ++ e ∷ []) v w c r
-least_of_keeps E e v w c m k u r q one le =
-    let P : Option (ℕ × ℕ) → Type 0 = λ z. LeastOf E v w c z → LeastOf (E ++ e ∷ []) v w c z in
-    subst P (sym q) (λ h. least_stays E e v w c m k (λ x b _ _. let j : x ≡ u = one x b in let z : m ≤ x = omega arith in z) h)
-
--- m was found, and the new edge leads to u, which is lower
-pub least_of_lower : (E : List Edge) (e : Edge) (v w c m k u : ℕ) (r : Option (ℕ × ℕ)) → r ≡ Some (m, k) → Between e v u → ((x : ℕ) → Between e v x → x ≡ u) → c ≤ u → (u ≡ w → ⊥) → u < m → LeastOf E v w c r → Least (E ++ e ∷ []) v w c u e.length
-least_of_lower E e v w c m k u r q b one cu uw lt =
-    let P : Option (ℕ × ℕ) → Type 0 = λ z. LeastOf E v w c z → Least (E ++ e ∷ []) v w c u e.length in
-    subst P (sym q) (λ h. least_new E e v w c u b one cu uw (λ x j n le ne. let z : m ≤ x = h.least x j n le ne in let y : u ≤ x = omega arith in y))
-
--- nothing was found, and the new edge leads to u
-pub least_of_new : (E : List Edge) (e : Edge) (v w c u : ℕ) (r : Option (ℕ × ℕ)) → r ≡ None → Between e v u → ((x : ℕ) → Between e v x → x ≡ u) → c ≤ u → (u ≡ w → ⊥) → LeastOf E v w c r → Least (E ++ e ∷ []) v w c u e.length
-least_of_new E e v w c u r q b one cu uw =
-    let P : Option (ℕ × ℕ) → Type 0 = λ z. LeastOf E v w c z → Least (E ++ e ∷ []) v w c u e.length in
-    subst P (sym q) (λ h. least_new E e v w c u b one cu uw (λ x j n le ne. absurd (h x j n le ne)))
 
 -- ---- there is one edge at most between two nodes, so the answer is what the forest begins with
 
