@@ -1,6 +1,6 @@
 -- Sound edges as they were taken, one after another.
-use Rattle.std.proofs.Common.{◌≡◌, ℕ, zero, suc, ◌+◌, ◌*◌, ◌<◌, ◌≤◌, List, [], ◌∷◌, ◌++◌, length, get_or, take, sym, ap, ◌∙◌, subst, ⊎_elim, add-one, arith}
-use Rattle.std.proofs.lemmas.List.{take_more, take_all, take-append-le, get_or_append_left, get_or_push, length_push, length-take-le}
+use Rattle.std.proofs.Common.{◌≡◌, ℕ, zero, suc, ◌+◌, ◌*◌, ◌<◌, ◌≤◌, List, [], ◌∷◌, ◌++◌, length, get_or, take, sym, ◌∙◌, subst, ⊎_elim, add-one, arith}
+use Rattle.std.proofs.lemmas.List.{take_more, take_all, take-append-le, get_or_append_left, get_or_push, length_push}
 use Rattle.std.proofs.lemmas.Bool.{cases_lt}
 use Rattle.order.specs.Firsts.{Among}
 use Rattle.order.proofs.Finding.{among_either, among_one, among_none}
@@ -97,10 +97,3 @@ wire_push (d ∷ E) e = let h = wire_push E e in omega arith
 pub wire_bound : {n : ℕ} {E : List Edge} → Accepted n E → wire E ≤ 100000000 * length E
 wire_bound start = omega arith
 wire_bound (more {E} {e} h f) = omega (arith, wire_push E e, length_push E e, wire_bound h, f.3)
-
--- a front of the edges is no longer than its number of edges allows
-pub wire_front : (n : ℕ) (E : List Edge) → Sound n E → (i : ℕ) → i ≤ length E → wire (take i E) ≤ 100000000 * i
-wire_front n E s i h = omega (arith, wire_bound (accepted_front n E no_edge s i h), length-take-le i E h)
-
-pub wire_more : (E : List Edge) (i : ℕ) (d : Edge) → i < length E → wire (take (i + 1) E) ≡ wire (take i E) + (get_or E i d).length
-wire_more E i d h = ap wire (take_more E i d h) ∙ wire_push (take i E) (get_or E i d)

@@ -154,10 +154,6 @@ heads_count {n} (more {E} {e} a k) =
     let same : heads (label_of (E ++ e ∷ [])) n ≡ heads g n = heads_same g (label_of (E ++ e ∷ [])) n (label_push E e) in
     omega (arith, fewer, same, heads_count a, length_push E e)
 
--- there are fewer edges than nodes, unless there are no nodes
-pub fewer_edges : {n : ℕ} {E : List Edge} → Accepted n E → length E ≤ n
-fewer_edges a = omega (arith, heads_count a)
-
 -- two nodes that are not joined leave room for an edge
 pub room : {n : ℕ} {E : List Edge} → Accepted n E → (v : ℕ) → v < n → length E < n
 room {n} {E} a v h = omega (arith, heads_count a, heads_some (label_of E) (label_of E v) n (label_below a v h) (label_head E v))

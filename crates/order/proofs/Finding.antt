@@ -100,22 +100,6 @@ module _ {X : Type 0} {lt : X → X → Bool} (o : Order lt) where
   pub covers_none : Covers lt [] []
   covers_none = record { within = λ w a. a; beaten = λ x a. absurd (among_none a) }
 
-  -- one more list, with its first
-  pub covers_more : {ws xs ys : List X} {w : X} → Covers lt ws xs → First lt ys w → Covers lt (ws ++ w ∷ []) (xs ++ ys)
-  covers_more {ws} {xs} {ys} {w} c f =
-      record {
-        within = λ z a.
-            ⊎_elim
-            (λ b. among_left xs ys (c.within z b))
-            (λ b. let e : z ≡ w = among_one b in among_right xs ys (rw e f.stands))
-            (among_either ws (w ∷ []) a);
-        beaten = λ x a.
-            ⊎_elim
-            (λ b. let d = c.beaten x b in (d.0, among_left ws (w ∷ []) d.1, d.2))
-            (λ b. (w, among_right ws (w ∷ []) here, f.least x b))
-            (among_either xs ys a);
-      }
-
   pub covers_front : {ws xs ys : List X} {w : X} → First lt ys w → Covers lt ws xs → Covers lt (w ∷ ws) (ys ++ xs)
   covers_front {ws} {xs} {ys} {w} f c =
       record {

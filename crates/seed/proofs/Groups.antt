@@ -32,12 +32,6 @@ label_after E e v x y from to p q r s =
 
 -- ---- one more node
 
-pub labelled_none : Labelled [] []
-labelled_none v h = absurd (past v h)
-  where
-    past : (v : ℕ) → v < 0 → ⊥
-    past v h = omega arith
-
 -- a node that no edge touches has its own number as its label
 pub label_alone : (n : ℕ) (E : List Edge) (v : ℕ) → Sound n E → n ≤ v → label_of E v ≡ v
 label_alone n E v s h =

@@ -13,7 +13,7 @@ use Rattle.tree_laws.proofs.Adding.{add_length, add_new, add_old}
 use Rattle.tree_laws.proofs.Hanging.{hang_length}
 use Rattle.tree_laws.proofs.Ways.{off_under, placed, way_only}
 use Rattle.tree.specs.declared.table.Table.{Table as Tree-table}
-use Rattle.tree.specs.Tables.{Added, alone, rows_of}
+use Rattle.tree.specs.Tables.{Added, rows_of}
 use Rattle.build_laws.specs.Straight.{straight, straight_row}
 use Rattle.build_laws.proofs.Building.{straight_length, straight_row_lem}
 use Rattle.straight.specs.Built.{breakpoints_of}
@@ -48,16 +48,6 @@ added_rows s u z l None t a h k m = absurd (a.0 (record { parent = h; short = k;
 added_rows s u z l (Some i) t a h k m = a.2
 
 module _ (R : Rules) (S : Table) (place : ℕ → Spot) where
-  pub laying_alone : (z : Spot) → z ≡ place 0 → Laying R S place 1 1 (alone z)
-  laying_alone z e = record {
-    count = refl;
-    done = λ k h l. at k (omega arith);
-    rest = λ k h l. absurd (omega arith);
-  }
-    where
-      at : (k : ℕ) → k ≡ 0 → row_of (alone z) k ≡ straight_row R S place k
-      at k o = ap (row_of (alone z)) o ∙ ap (λ x. record { parent = 0; spot = x; length = 0 }) e ∙ ap (straight_row R S place) (sym o)
-
   pub laying_add : (n : ℕ) (rows : List Row) (z : Spot) (d : ℕ) → 1 ≤ n → z ≡ place n → d ≡ R.direct n → Laying R S place n 1 rows → Laying R S place (n + 1) 1 (add rows 0 z d)
   laying_add n rows z d one p q l = record {
     count = omega (arith, add_length rows 0 z d, l.count);
@@ -183,9 +173,6 @@ laid_straight R R' S place n rows e l =
     ∙ sym (straight_row_lem R' S place n k m))
 
 -- ---- the breakpoints
-
-pub breakpoints_none : (S : Table) → (S 0).broken ≡ false → breakpoints_of S 1 ≡ []
-breakpoints_none S b = cond-false (S 0).broken (0 ∷ []) [] b
 
 pub breakpoints_push : (S : Table) (i : ℕ) → (S i).broken ≡ true → breakpoints_of S (i + 1) ≡ breakpoints_of S i ++ i ∷ []
 breakpoints_push S i b = rw add-one (cond-true (S i).broken (breakpoints_of S i ++ i ∷ []) (breakpoints_of S i) b)

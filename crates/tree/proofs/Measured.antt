@@ -59,10 +59,6 @@ module _ {X : Type 0} (G : Ghosts X) (s : X) (rows : List Row) (law : G.width s 
       let both : G.admitted s (spot_of rows u) && G.admitted s (spot_of rows v) ≡ true = rw (a, b) in
       uncut (distance_of G s rows u v) (G.width s) (G.admitted s (spot_of rows u) && G.admitted s (spot_of rows v)) both ((law p.narrow).within (spot_of rows u) (spot_of rows v) a b) p.narrow
 
-  pub none_measured : BestOf hook_before (HookMove rows (apart G s rows)) None → Settled G s rows → BestOf hook_before (HookMove rows (distance_of G s rows)) None
-  unfolding Agree
-  none_measured b p = best_other rows (apart G s rows) (distance_of G s rows) (measured p) None b
-
   pub saved_measured : (w : ℕ) (after : List Row) → Saved rows (apart G s rows) w after → Settled G s rows → Saved rows (distance_of G s rows) w after × Settled G s after
   unfolding Agree
   saved_measured w after x p =

@@ -1,5 +1,5 @@
 -- Steps of the loops that go up a tree, and bounds on paths and wire. Assumes nothing.
-use Rattle.std.proofs.Common.{◌≡◌, ℕ, zero, suc, ◌+◌, ◌-◌, ◌*◌, ◌<◌, ◌≤◌, true, eqb, List, refl, ap, ◌∙◌, ⊎_elim, add-one, arith}
+use Rattle.std.proofs.Common.{◌≡◌, ℕ, zero, suc, ◌+◌, ◌-◌, ◌*◌, ◌<◌, ◌≤◌, true, List, refl, ap, ◌∙◌, ⊎_elim, add-one, arith}
 use Rattle.std.proofs.lemmas.Bool.{cases_eq, eq-eqb, ne_eqb}
 use Rattle.tree_laws.specs.declared.Row.{Row}
 use Rattle.tree_laws.specs.Trees.{Tree, up, length_of, path_in, under_in}
@@ -50,9 +50,3 @@ pub under_turn : (rows : List Row) (n i at v : ℕ) → i < n → (at ≡ v → 
 under_turn rows n i at v h ne =
     let m : n - i ≡ n - (i + 1) + 1 = omega arith in
     ap (λ x. under_in rows x at v) m ∙ under_more rows (n - (i + 1)) at v ne
-
-pub under_last : (rows : List Row) (n i at v : ℕ) → n ≤ i → under_in rows (n - i) at v ≡ eqb at v
-under_last rows n i at v h = let m : n - i ≡ 0 = omega arith in ap (λ x. under_in rows x at v) m
-
-pub path_last : (rows : List Row) (n i at : ℕ) → n ≤ i → path_in rows (n - i) at ≡ 0
-path_last rows n i at h = let m : n - i ≡ 0 = omega arith in ap (λ x. path_in rows x at) m

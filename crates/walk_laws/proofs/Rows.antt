@@ -1,10 +1,10 @@
 -- A sum over the numbers below n as a sum over a tree on the nodes below n. Assumes ranks.
-use Rattle.std.proofs.Common.{◌≡◌, ℕ, ◌+◌, ◌<◌, ◌≤◌, cond, eqb, ◌⊎◌, sym, refl, ap, ◌∙◌, inl, inr, arith}
-use Rattle.std.proofs.lemmas.Bool.{cases_eq, cond-true, cond-false, eq-eqb, ne_eqb}
+use Rattle.std.proofs.Common.{◌≡◌, ℕ, ◌+◌, ◌<◌, ◌≤◌, cond, eqb, ◌⊎◌, refl, ap, inl, inr, arith}
+use Rattle.std.proofs.lemmas.Bool.{cond-true, cond-false, eq-eqb, ne_eqb}
 use Rattle.forest.specs.Rooted.{Forest, none, kid, Ranked, In, here, under, beside}
-use Rattle.walk_laws.specs.Promise.{sum_to, Spanning}
+use Rattle.walk_laws.specs.Promise.{sum_to}
 use Rattle.walk_laws.proofs.Branches.{ranked_up}
-use Rattle.walk_laws.proofs.Sums.{sum_same, sum_add, sum_none, sum_one}
+use Rattle.walk_laws.proofs.Sums.{sum_add, sum_none, sum_one}
 
 -- The sum of f over the nodes of the forest.
 abbrev pub over : (ℕ → ℕ) → Forest → ℕ
@@ -91,25 +91,3 @@ module _ (n : ℕ) (rank : ℕ → ℕ) (f : ℕ → ℕ) where
         share_out (lo + 1) b r.2.0 r.2.1 x (inr h.0),
         share_in r.2.0 o hi r.2.2 x i,
       )
-
-  -- The sum over the rows is the driver's part and the sum over the tree.
-  pub rows_over : (F : Forest) → Spanning n rank F → sum_to f n ≡ f 0 + over f F
-  rows_over F T =
-      sum_same f (λ k. cond (eqb k 0) (f k) 0 + share f F k) n (λ k h. sym (part k h (cases_eq k 0))) ∙
-      omega (
-        arith,
-        sum_add (λ k. cond (eqb k 0) (f k) 0) (share f F) n,
-        sum_one f n 0 (ranked_up n rank 1 F n T.ranked),
-        share_sum 1 F n T.ranked,
-      )
-    where
-      part : (k : ℕ) → k < n → (k ≡ 0) ⊎ (k ≡ 0 → ⊥) → cond (eqb k 0) (f k) 0 + share f F k ≡ f k
-      part k h (inl s) =
-          omega (
-            arith,
-            cond-true (eqb k 0) (f k) 0 (eq-eqb k 0 s),
-            share_out 1 F n T.ranked k (inl (omega (arith, ap rank s, T.first))),
-          )
-      part k h (inr s) =
-          omega
-          (arith, cond-false (eqb k 0) (f k) 0 (ne_eqb k 0 s), share_in 1 F n T.ranked k (T.all k h s))

@@ -17,11 +17,6 @@ pub finish_up : (R : Rules) (v u l : ℕ) (o : Forest) (K : Trail) (S : Table) �
 unfolding walk finish
 finish_up R v u l o K S = refl
 
--- At the end.
-pub finish_end : (R : Rules) (v : ℕ) (S : Table) → finish R v arrived (walk R v none S) ≡ S
-unfolding walk finish
-finish_end R v S = refl
-
 -- At the start.
 pub finish_start : (R : Rules) (v : ℕ) (F : Forest) (S : Table) → finish R v arrived (walk R v F S) ≡ walk R v F S
 unfolding finish
