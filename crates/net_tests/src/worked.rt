@@ -4,7 +4,7 @@ use crate::refusals::check_standing;
 use guarantee::run;
 use net::Net;
 use net_laws::{Call, JoinCall};
-use space::{Plane, Space, Spot};
+use space::{Lift, Plane, Space, Spot};
 use std::process::Abort;
 use std::test::Fail;
 
@@ -181,6 +181,20 @@ fn fork(rt: HostRuntime) -> Result<(), Fail> {
     )
 }
 
+// The straight tree of the fork, before it is joined.
+#[test]
+fn unjoined_fork(rt: HostRuntime) -> Result<(), Fail> {
+    check_rows(
+        &rt,
+        &net_of(
+            &rt,
+            &FORK.map(|(call, _)| call)[..9],
+            &FORK.map(|(_, said)| said)[..9],
+        )?,
+        &[(0, 0, 0, 0), (0, -6, 0, 6), (0, 4, 3, 7), (0, 5, 1, 6)],
+    )
+}
+
 #[test]
 fn corner(rt: HostRuntime) -> Result<(), Fail> {
     check_rows(
@@ -205,6 +219,46 @@ fn square(rt: HostRuntime) -> Result<(), Fail> {
         )?,
         &[],
     )
+}
+
+// The square with its pins in a chain: within its allowance, and beyond it.
+#[test]
+fn chained_square(rt: HostRuntime) -> Result<(), Fail> {
+    let mut net = net_of(
+        &rt,
+        &SQUARE.map(|(call, _)| call)[..4],
+        &SQUARE.map(|(_, said)| said)[..4],
+    )?;
+    assert!(rt; net.edge(0, 1) == Ok(6) && net.edge(1, 2) == Ok(6) && net.edge(2, 3) == Ok(6));
+    assert!(rt; net.allow(2, 1).is_ok() && net.straight() == Ok(18));
+    check_rows(
+        &rt,
+        &net,
+        &[(0, 0, 0, 0), (0, 6, 0, 6), (1, 6, 6, 6), (2, 0, 6, 6)],
+    )?;
+    assert!(rt; net.allow(199, 100).is_ok() && net.straight() == Ok(18));
+    check_rows(
+        &rt,
+        &net,
+        &[(0, 0, 0, 0), (0, 6, 0, 6), (1, 6, 6, 6), (0, 0, 6, 6)],
+    )
+}
+
+// A pin in a lift over the plane at a price.
+fn pin_at(rt: &impl AllocGlobal, price: u32) -> Result<Result<usize, u8>, Fail> {
+    let lift = Lift {
+        below: Plane,
+        price,
+    };
+    let mut net = Net::new(rt.alloc(), lift)?;
+    Ok(net.pin(Spot::default()).map_err(|fault| fault.number()))
+}
+
+#[test]
+fn widest_lift(rt: HostRuntime) -> Result<(), Fail> {
+    assert!(rt; pin_at(&rt, 6_400_000)? == Ok(0));
+    assert!(rt; pin_at(&rt, 6_400_001)? == Err(1));
+    Ok(())
 }
 
 #[test]
