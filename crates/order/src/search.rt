@@ -4,6 +4,7 @@ ghost use Rattle.order.specs.Firsts.{Covers, FirstOf, Winners, together};
 ghost use Rattle.order.specs.Orders.{Order};
 
 /// Candidates of one kind, of which any two different ones have a first.
+// Kept: `Ord` would say that ties are equal by `==`; the searches rest on more, that two different candidates never tie (`order`).
 pub trait Rank: Sized {
     ghost before: { Self → Self → Bool };
 
@@ -35,7 +36,7 @@ pub fn first_until<C: Rank + Copy, F: Fn(usize) -> Option<C>, E: Fn(C) -> bool>(
     let mut first: Option<C> = None;
     for i in 0..n {
         if let Some(candidate) = find(i) {
-            if first.map_or(true, |best| candidate.precedes(&best)) {
+            if first.is_none_or(|best| candidate.precedes(&best)) {
                 if enough(candidate) {
                     return Some(candidate);
                 }
@@ -54,6 +55,7 @@ pub fn first<C: Rank + Copy>(candidates: &[C]) -> Option<C>
     ensures staged { (xs : List C) → Covers C.Rank.before candidates.now xs → FirstOf C.Rank.before xs result }
     ensures gathered { (ls : List (List C)) → Winners C.Rank.before ls candidates.now → FirstOf C.Rank.before (together ls) result }
 {
+    // Kept: the search is over numbers, since rows, pins and places are what most callers number.
     first_found(
         candidates.len(),
         |i|

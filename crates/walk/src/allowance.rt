@@ -1,5 +1,7 @@
-ghost use Rattle.std.specs.Prelude.{◌≡◌, ◌+◌, ◌*◌, ◌≤◌, MatchOption, nat_lt};
-ghost use Rattle.walk.specs.Limits.{Within, highest};
+ghost use Rattle.std.specs.Prelude.{◌≡◌, ◌+◌, ◌*◌, ◌≤◌, MatchOption, Some, nat_lt};
+ghost use Rattle.walk.specs.Limits.{Within, highest, ratio_text};
+
+use std::fmt;
 
 /// How much longer than its direct distance D a sink's way may be: q times the way is at most p + q times D.
 /// p is at most 1,000, and q is from 1 to 1,000.
@@ -8,6 +10,16 @@ pub struct Allowance {
     p: u64,
     q: u64,
     ghost within: { Within p q },
+}
+
+// Two decimal numbers, `p/q`.
+impl fmt::Display for Allowance {
+    ghost output = { λ a. Some (ratio_text a.p a.q) };
+
+    fn fmt<W: fmt::Write>(&self, f: &mut fmt::Formatter<W>) -> fmt::Result {
+        let Allowance { p, q } = *self;
+        write!(f, "{p}/{q}")
+    }
 }
 
 impl Allowance {

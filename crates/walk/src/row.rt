@@ -11,7 +11,7 @@ use crate::rules::Rules;
 pub struct Mark {
     pub est: Option<u64>,
     // Kept: nodes are numbered from 0 for users, and all memory is reserved once; boxes would ask for memory node by node.
-    // Kept: 0 is what users are told as the parent of the driver and of a node without an estimate, though neither has one.
+    // Kept: an `Option` would have to be 0 again where users are told it: the driver, and a node without an estimate, have the parent 0.
     pub parent: usize,
     pub edge: u64,
     // Kept: whether a node broke off says nothing of the values beside it, which later offers still change.
@@ -19,7 +19,8 @@ pub struct Mark {
 }
 
 /// A node's mark and direct distance, and the walk's place there: where it came from, over which length, and the next child to try.
-// Kept: the walk's place lies in the rows, so that it needs no stack and no memory that grows with the net.
+// Kept: the walk's place lies in the rows, so that it needs no stack and no memory that grows with the net. That `direct` is at most `LONGEST` is asked by
+// each function that multiplies it: the definitions make rows of any numbers (`fresh_row`), which a fact of the type would not let them.
 #[derive(Clone, Copy, Debug, PartialEq, Eq, Drop)]
 pub(crate) struct Row {
     pub(crate) mark: Mark,
@@ -46,7 +47,7 @@ impl Mark {
     pub(crate) fn offered(self, u: usize, l: u64, e: u64) -> Mark
         ensures { seen result ≡ offered u l e self.est (seen self) }
     {
-        let better = self.est.map_or(true, |f| e < f || e == f && l < self.edge);
+        let better = self.est.is_none_or(|f| e < f || e == f && l < self.edge);
         if better {
             Mark {
                 est: Some(e),
