@@ -31,7 +31,7 @@ fn scatter<S: Space>(net: &mut Net<S>) -> usize {
     pins
 }
 
-// Kept: the program `route` has the same sum, and a program exports nothing to a test crate. Rows are given by their numbers.
+// Kept: the program `route` has the same sum, and a program exports nothing to a test crate; the calls of a net give rows by their numbers.
 fn wire<S: Space>(net: &Net<S>) -> u64 {
     (0..768)
         .map_while(|k| net.row(k).ok())

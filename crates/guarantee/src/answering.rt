@@ -33,7 +33,7 @@ pub trait NetCall<S: Space> {
 fn number(answer: Result<usize, Fault>) -> Result<u64, Fault>
     ensures { result ≡ answer }
 {
-    // Kept: there is no `From` between these two types of 64 bits.
+    // Kept: there is no `From` between these two types of 64 bits, and `try_from` would need a value for a failure that can't come.
     answer.map(|k| k as u64)
 }
 

@@ -25,7 +25,7 @@ pub fn run<S: Space, C: NetCall<S>>(
     ensures stays { net.new.space ≡ net.old.space }
 {
     let count = calls.len().min(answers.len());
-    // Kept: tried `answers.iter_mut().zip(calls)`; the proof did not close, since it knows nothing of what is written so.
+    // Kept: tried `answers.iter_mut().zip(calls)`; the proof did not close, since after `iter_mut` it knows only the length.
     for (i, call) in calls[..count].iter().enumerate() {
         answers[i] = call.make(net);
     }

@@ -88,7 +88,7 @@ impl Joiner {
     }
 
     /// Joins the first pair of all, and answers whether there is one whose meet is not 0 from the driver.
-    // Kept: a plain yes or no, which the loop in `join` asks; an `Option<()>` would say no more.
+    // Kept: a plain yes or no, which the loop in `join` asks; an `Option<()>` would say no more, and its `?` would save two lines.
     fn step<S: Joining>(&mut self, space: &S, table: &mut Table) -> bool
         requires { Standing (reach_of S.Space space.now) (join_of S.Space S.Joining.own space.now) (rows_of table.old) self.old.group.items self.old.partners.items }
         ensures { Stepped (reach_of S.Space space.now) (join_of S.Space S.Joining.own space.now) (rows_of table.old) self.old.group.items result (rows_of table.new) self.new.group.items self.new.partners.items }

@@ -99,6 +99,7 @@ impl<'a, S: Joining> Group<'a, S> {
     }
 
     /// Makes the first pair of a member what it is after a step, and answers whether there is one.
+    // Kept: a plain yes or no, which `retain_mut` asks for.
     fn refresh(&self, pair: &mut Pair, change: Change) -> bool
         ensures { Stale (reach_of S.Space self.now.space.now) (join_of S.Space S.Joining.own self.now.space.now) (rows_of self.now.table.now) self.now.members.now change.a change.b pair.old → Again (reach_of S.Space self.now.space.now) (join_of S.Space S.Joining.own self.now.space.now) (rows_of self.now.table.now) self.now.members.now change.a change.b pair.old (cond result (Some pair.new) None) }
     {

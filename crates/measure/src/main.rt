@@ -43,7 +43,7 @@ fn run(rt: &HostRuntime) -> anyhow::Result<()> {
 }
 
 /// The arguments after the program's name.
-// Kept: a public call of `input` for these lines could promise no more than its type, since no contract says what a program's arguments are.
+// Kept: three lines; a public call for them would need a contract and an edit, and no contract says what a program's arguments are.
 fn arguments(rt: &HostRuntime) -> anyhow::Result<Arguments> {
     let price = env::args(rt)?.nth(1);
     let ratio = env::args(rt)?.nth(2);

@@ -21,6 +21,7 @@ impl<'a> Report<'a> {
     }
 
     /// What a space that can join wires too says of them.
+    // Kept: one line more than `measuring`, and it asks for another bound.
     pub fn joining<S: Joining>(&mut self, space: &S) -> io::Result<()> {
         self.distances(space)?;
         self.meets(space)?;

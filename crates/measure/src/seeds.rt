@@ -30,11 +30,13 @@ impl Tables {
 }
 
 /// Whether the spot is at least 1 from each of the pins.
+// Kept: `net` has the like over distances that are cut, for a net's own pins; this program makes no net.
 fn far_from<S: Space>(space: &S, pins: &[Spot], spot: Spot) -> bool {
     pins.iter().all(|pin| space.distance(*pin, spot) != Some(0))
 }
 
 /// A row for each pin, with its direct distance from the first.
+// Kept: `straight` has the like inside its call, over distances that are cut; this program builds no tree.
 fn fill<S: Space>(table: &mut Table, space: &S, pins: &[Spot]) {
     table.clear();
     let [driver, ..] = pins else {
@@ -102,17 +104,16 @@ impl<'a> Report<'a> {
 
     /// The walk over the spanning seed: how many sinks break off, and the worst estimate.
     fn walked<S: Space>(&mut self, space: &S, pins: &[Spot]) -> io::Result<()> {
-        let p = self.allowance.p();
-        let q = self.allowance.q();
+        let allowance = self.allowance;
         let Tables { seed, table, .. } = &mut self.tables;
         fill(table, space, pins);
-        if pins.len() < 2 || table.walk(seed, pins.len(), self.allowance).is_err() {
-            return println!(self.rt; "  no walk at {p}/{q}: no sinks");
+        if pins.len() < 2 || table.walk(seed, pins.len(), allowance).is_err() {
+            return println!(self.rt; "  no walk at {allowance}: no sinks");
         }
         let count = table.breakpoints();
         let (figure, pin) = worst(table);
         println!(self.rt;
-            "  walk at {p}/{q}: {count} breakpoints, worst estimate {figure} thousandths of the direct distance at pin {pin}"
+            "  walk at {allowance}: {count} breakpoints, worst estimate {figure} thousandths of the direct distance at pin {pin}"
         )
     }
 }

@@ -30,7 +30,7 @@ pub struct Net<S: Space> {
     space: S,
     board: Board,
     work: Work,
-    ghost whole: { Whole S.Space space (seen board) },
+    pub ghost whole: { Whole S.Space space (seen board) },
 }
 
 impl Work {

@@ -29,7 +29,7 @@ fn run(rt: &HostRuntime) -> anyhow::Result<()> {
 }
 
 /// The arguments after the program's name.
-// Kept: a public call of `input` for these lines could promise no more than its type, since no contract says what a program's arguments are.
+// Kept: three lines; a public call for them would need a contract and an edit, and no contract says what a program's arguments are.
 fn arguments(rt: &HostRuntime) -> anyhow::Result<Arguments> {
     let price = env::args(rt)?.nth(1);
     let ratio = env::args(rt)?.nth(2);
@@ -44,9 +44,7 @@ fn over<'a, S: Space + Drop>(
     arguments: Arguments,
 ) -> io::Result<Route<'a, Lift<S>>> {
     let Arguments { price, allowance } = arguments;
-    let p = allowance.p();
-    let q = allowance.q();
-    println!(rt; "lift over {name}, price {price}, allowance {p}/{q}")?;
+    println!(rt; "lift over {name}, price {price}, allowance {allowance}")?;
     let net = Net::new(rt.alloc(), Lift { below, price })?;
     Ok(Route { rt, net, allowance })
 }

@@ -6,8 +6,7 @@ use tree::ROWS;
 use tree_laws::Row;
 
 /// The wire of the net's tree: the sum of its rows' lengths, 0 where there is no tree.
-// Kept: a net gives its rows by their numbers, as users ask for them, so this and `print_rows` go over numbers; an iterator of a net's rows
-// would be a type and a trait of its own, longer than both.
+// Kept: the calls of a net are a fixed list, in which rows are given by their numbers, so this and `print_rows` go over numbers.
 pub fn wire<S: Space>(net: &Net<S>) -> u64 {
     (0..ROWS)
         .map_while(|k| net.row(k).ok())

@@ -28,6 +28,7 @@ impl Builder {
     /// Builds the straight tree of the seed in place of what the table held, and answers its wire. The sinks are the nodes from 1 to
     /// `pins` - 1, and `spots` has the spot of each node. Nothing, with the table and the listed breakpoints as they were, where the seed
     /// is no tree or there is not one spot for each of its nodes.
+    // Kept: the nodes come as one slice, pins first, so `pins` says where the pins end.
     pub fn straight<S: Space>(
         &mut self,
         space: &S,

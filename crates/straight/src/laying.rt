@@ -53,7 +53,7 @@ impl<'a> Plan<'a> {
         ensures { Laying (rules_of 0 0 0 (walkRows self.now.walk.now)) (marks (walkRows self.now.walk.now)) (spot_at self.now.spots.now) (length self.now.spots.now) 1 (rows_of tree.new) }
     {
         tree.restart(spot_of(self.spots, 0));
-        // Kept: tried `self.spots.iter().enumerate().skip(1)`; the proof didn't close, since the loop then knows no index.
+        // Kept: `v` is the number of a node, of its distance and of its row; `self.spots.iter().enumerate().skip(1)` gives the same number in a longer way.
         for v in 1..self.spots.len() {
             tree.add(0, spot_of(self.spots, v), self.direct(v));
         }
@@ -69,6 +69,7 @@ impl<'a> Plan<'a> {
     {
         self.star(tree);
         broken.clear();
+        // Kept: `v` is the number of a node, of its mark and of its row.
         for v in 1..self.spots.len() {
             let mark = self.mark(v);
             if mark.broken {

@@ -21,6 +21,7 @@ pub fn reach<S: Space>(space: &S, a: Spot, b: Spot) -> u64
 struct Search<'a, S: Space> {
     space: &'a S,
     table: &'a Table,
+    // Kept: room for the paths of as many rows as there can be, since all memory is fixed.
     paths: [u64; ROWS],
     ghost known: { Paths (rows_of table.now) paths },
 }

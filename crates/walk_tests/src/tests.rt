@@ -21,7 +21,7 @@ struct Net {
     table: Table,
 }
 
-// Ten times the number. Kept: there is no `From` between these two types of 64 bits.
+// Ten times the number. Kept: there is no `From` between these two types of 64 bits, and `try_from` would need a value for a failure that can't come.
 fn tens(n: usize) -> u64 {
     n.saturating_mul(10) as u64
 }

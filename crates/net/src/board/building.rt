@@ -51,6 +51,7 @@ impl Board {
         };
         let spots = self.spots.as_slice();
         let wire = builder.straight(space, spots, self.pins, allowance, &self.seed, table);
+        // Kept: the call is not refused here; `unwrap` would have that proved once more, beside the answer.
         wire.unwrap_or(0)
     }
 
@@ -70,6 +71,7 @@ impl Board {
         let Tree::Standing(table) = &mut self.tree else {
             unreachable!()
         };
+        // Kept: the call is not refused here; `unwrap` would have that proved once more, beside the answer.
         joiner.join(space, table, members).unwrap_or(0)
     }
 }

@@ -19,6 +19,7 @@ impl Board {
         ensures grown { seen self.new ≡ with_seed (seen self.old) (edges_of self.new.seed) }
     {
         self.drop_seed();
+        // Kept: the call is not refused here; `unwrap` would have that proved once more, beside the answer.
         spanner
             .grow(space, self.spots.as_slice(), &mut self.seed)
             .unwrap_or(0)
