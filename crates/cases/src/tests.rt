@@ -7,6 +7,7 @@ use std::process::Abort;
 use std::test::Fail;
 use walk::{Allowance, Table};
 
+// Kept: `net_tests` has the same line; a public function for it would need a contract and an edit, and would be longer.
 fn ground(x: i32, y: i32) -> Spot {
     Spot { x, y, level: 0 }
 }

@@ -140,6 +140,7 @@ const SQUARE: [(JoinCall, Said); 5] = [
 ];
 
 // The net in the plane that the calls leave, once they answered so.
+// Kept: the calls and what they answer are two slices; tried a list of pairs of any length (`const N`), and nothing is known of its `map`.
 fn net_of(
     rt: &(impl Abort + AllocGlobal),
     calls: &[JoinCall],
