@@ -33,6 +33,9 @@ impl<'a, S: Space> Search<'a, S> {
     {
         let old = self.table.row(v)?;
         let parent = self.table.row(u)?;
+        if self.paths[u] > self.paths[v] {
+            return None;
+        }
         let new = reach(self.space, parent.spot, old.spot);
         if new >= old.length {
             return None;
