@@ -1,4 +1,4 @@
-use Rattle.std.proofs.Common.{◌≡◌, ℕ, List, length, vec_items, sym, ap, ◌∙◌, subst, arith}
+use Rattle.std.proofs.Common.{◌≡◌, List, vec_items, sym, ap, ◌∙◌, subst, arith}
 use Rattle.build_laws.specs.Joining.{Joins}
 use Rattle.build_laws.specs.Joining.Joins.{done}
 use Rattle.share.specs.Shares.{join_of}
@@ -10,13 +10,6 @@ use Rattle.joined.proofs.Keeping.{among_empty}
 use Rattle.joined.proofs.Owning.{owned}
 use Rattle.joined.proofs.joining.Joiner.join.Goals as goal
 use Rattle.joined.proofs.joining.Joiner.join.Goals.{else-loop-test, then-loop-test+then-not-step}
-
-pub loop-init : goal.loop-init
-loop-init g c =
-    let d = reach_of g.S.Space c.args.space.now in
-    let j = join_of g.S.Space g.S.Joining c.args.space.now in
-    let e = c.begin.ensures.members in
-    (c.begin.ensures.standing, omega (arith, ap length e), λ end h. let P : List ℕ → Type 0 = λ xs. Joins d j (rows_of c.args.table.now) xs end in subst P e h)
 
 pub returns : goal.returns
 returns g c =
