@@ -1,15 +1,10 @@
 use Rattle.std.proofs.Common.{◌≡◌, true, is_err, sym, refl, ap, ◌∙◌, rules}
 use Rattle.net.specs.declared.board.holding.Tree.TheVariants.{Standing}
 use Rattle.net.proofs.Boards.{same_board}
-use Rattle.net.proofs.Moves.{refused_same, share_saves}
+use Rattle.net.proofs.Moves.{refused_same}
 use Rattle.net.proofs.board.Board.share.Goals as goal
 
 pub returns-in_err-share_best-clause-unchanged : goal.returns-in_err-share_best-clause-unchanged
 returns-in_err-share_best-clause-unchanged g c = λ e.
     let refused : is_err c.share_best.result ≡ true = search rules in
     same_board _ _ refl refl refl refl (ap Standing (refused_same g.S.Space g.S.Joining c.args.space.now c.in-Standing.table c.share_best.result c.share_best.new.table c.share_best.ensures refused) ∙ sym c.in-Standing.is)
-
-pub returns-clause-answer : goal.returns-clause-answer
-returns-clause-answer g c =
-    let b = c.args.self.now in
-    share_saves g.S.Space g.S.Joining c.args.space.now b c.in-Standing.table c.share_best.new.table c.in_ok-share_best.field-0 c.in-Standing.is c.in_ok-share_best.ensures

@@ -11,9 +11,3 @@ invariant_of-self g c =
     let s = straightened g.S.Space c.args.space.now c.in-Standing.table (vec_items c.args.builder.now.broken) c.as_slice-spots.result.now (vec_items b.spots) a.p a.q b.pins b.seed (vec_items c.straight-wire.new.self.broken) c.straight-wire.result c.straight-wire.new.tree c.straight-wire.ensures c.as_slice-spots.ensures.value (c.requires.whole ∙ sym b.nodes, b.nodes) _ refl in
     let n = straight_count _ _ _ _ _ _ _ s in
     record { room = b.room; first = b.first; few = b.few; points = b.points; nodes = b.nodes; tall = λ t e. omega (arith, n, b.nodes, ap (λ x. length (rows_of (table_of x))) e); two = λ t e. c.requires.two }
-
-pub returns-clause-straight : goal.returns-clause-straight
-returns-clause-straight g c =
-    let b = c.args.self.now in
-    let a = c.args.allowance in
-    straightened g.S.Space c.args.space.now c.in-Standing.table (vec_items c.args.builder.now.broken) c.as_slice-spots.result.now (vec_items b.spots) a.p a.q b.pins b.seed (vec_items c.straight-wire.new.self.broken) c.straight-wire.result c.straight-wire.new.tree c.straight-wire.ensures c.as_slice-spots.ensures.value (c.requires.whole ∙ sym b.nodes, b.nodes) c.unwrap_or.result c.unwrap_or.ensures
