@@ -16,6 +16,12 @@ RowAnswer n k =
     asks 13 ((n.tree ≡ None) → ⊥) (asks 16 ((rows : List Row) → Stands n rows → k < length rows)
     (accepts (λ r. (rows : List Row) × Stands n rows × (r ≡ row_of rows k))))
 
+-- How many rows the tree has.
+abbrev pub RowsAnswer : State → Result ℕ Fault → Type 0
+RowsAnswer n =
+    asks 13 ((n.tree ≡ None) → ⊥)
+    (accepts (λ count. (rows : List Row) × Stands n rows × (count ≡ length rows)))
+
 -- The direct distance of a pin.
 abbrev pub direct_distance : (Spot → Spot → ℕ) → State → (k : ℕ) → ℕ
 direct_distance d n k = d (spot_at n.spots 0) (spot_at n.spots k)

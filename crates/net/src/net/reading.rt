@@ -1,5 +1,5 @@
 ghost use Rattle.std.specs.Prelude.{◌≡◌};
-ghost use Rattle.net_laws.specs.Readings.{PathAnswer, RowAnswer, WorstAnswer};
+ghost use Rattle.net_laws.specs.Readings.{PathAnswer, RowAnswer, RowsAnswer, WorstAnswer};
 ghost use Rattle.span.specs.Lengths.{length_of};
 ghost use Rattle.tree.specs.Hooks.{reach_of};
 ghost use Rattle.net.specs.Nets.{seen};
@@ -11,6 +11,13 @@ use tree::reach;
 use tree_laws::Row;
 
 impl<S: Space> Net<S> {
+    /// How many rows the tree has; they are numbered from 0.
+    pub fn rows(&self) -> Result<usize, Fault>
+        ensures { RowsAnswer (seen self.now.board) result }
+    {
+        Ok(self.board.standing()?.tree().len())
+    }
+
     /// The row `k` of the tree.
     pub fn row(&self, k: usize) -> Result<Row, Fault>
         ensures { RowAnswer (seen self.now.board) k result }
