@@ -1,13 +1,14 @@
-// A library with one function.
+//! What the lines of a job ask, and how a line is refused as text.
+
 #![tactic(auto)]
 
-ghost use Rattle.std.specs.Prelude.{◌≡◌};
-ghost use Rattle.request.specs.Echo.{echo_of};
+mod cutting;
+mod fault;
+mod fields;
+mod reading;
+mod requests;
 
-// The `ensures` clause is the contract: what `echo` returns is `echo_of` of its argument, a definition
-// in `specs/Echo.antt`, which a caller's clause can cite too.
-pub fn echo(x: usize) -> usize
-    ensures { result ≡ echo_of x }
-{
-    x
-}
+pub use cutting::next_line;
+pub use fault::TextFault;
+pub use reading::read;
+pub use requests::{Request, Word};

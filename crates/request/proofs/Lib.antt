@@ -1,0 +1,3 @@
+mod Lining
+mod Parting
+mod Few

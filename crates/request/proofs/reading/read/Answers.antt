@@ -1,0 +1,20 @@
+use Rattle.std.proofs.Common.{ℕ, List, take, subst, arith, length-take}
+use Rattle.request.specs.Lines.{fields_of}
+use Rattle.request.specs.Requests.{ReadsFields}
+use Rattle.request.proofs.Few.{few, reads}
+use Rattle.request.proofs.reading.read.Goals as goal
+
+pub slice_bounds-fields-end-2 : goal.slice_bounds-fields-end-2
+slice_bounds-fields-end-2 c = omega (arith, c.cut-count.ensures.few, c.cut-count.ensures.places)
+
+pub slice_bounds-read_fields-end : goal.slice_bounds-read_fields-end
+slice_bounds-read_fields-end c =
+    omega (arith, c.cut-count.ensures.few, c.cut-count.ensures.places, length-take c.cut-count.result c.cut-count.new.fields)
+
+pub returns : goal.returns
+returns c =
+    let line = c.args.line.now in
+    let r = c.read_fields.result in
+    let P : List (List ℕ) → Type 0 = λ fs. ReadsFields fs r in
+    let seen : ReadsFields (take 5 (fields_of line)) r = subst P c.cut-count.ensures.parts c.read_fields.ensures in
+    reads line r (omega arith) (few (fields_of line) r seen)

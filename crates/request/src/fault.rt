@@ -1,0 +1,59 @@
+ghost use Rattle.std.specs.Prelude.{◌≡◌};
+ghost use Rattle.request.specs.declared.fault.TextFault.TheVariants.{Net as carried, BadField as bad};
+
+use net_laws::Fault;
+use std::fmt;
+
+/// A refusal of a line, or one of the net carried on whole.
+#[derive(Clone, Copy, Debug, PartialEq, Eq)]
+pub enum TextFault {
+    /// 20: the line has more than 80 bytes.
+    LongLine,
+    /// 21: field 1 is no known letter.
+    NoLetter,
+    /// 22: the line has not that letter's fields.
+    WrongFields,
+    /// 23: this field, counted from 1 with the letter, is the first that is not good.
+    BadField(u8),
+    /// 24: W is not on line 1, or line 1 was no accepted W.
+    OutOfPlace,
+    /// 25: the space has not this call.
+    NoCall,
+    /// 1 to 16: the refusal of the net.
+    Net(Fault),
+}
+
+/// The number of a field that is not good.
+#[derive(Clone, Copy)]
+pub(crate) struct Unread(pub u8);
+
+impl From<Fault> for TextFault {
+    ghost from_gives = { λ e r. r ≡ carried e };
+
+    fn from(fault: Fault) -> TextFault {
+        TextFault::Net(fault)
+    }
+}
+
+impl From<Unread> for TextFault {
+    ghost from_gives = { λ e r. r ≡ bad e.0 };
+
+    fn from(unread: Unread) -> TextFault {
+        TextFault::BadField(unread.0)
+    }
+}
+
+/// The refusal in words.
+impl fmt::Display for TextFault {
+    fn fmt<W: fmt::Write>(&self, f: &mut fmt::Formatter<W>) -> fmt::Result {
+        match self {
+            TextFault::LongLine => write!(f, "the line has more than 80 bytes"),
+            TextFault::NoLetter => write!(f, "field 1 is no known letter"),
+            TextFault::WrongFields => write!(f, "the line has not its letter's fields"),
+            TextFault::BadField(field) => write!(f, "field {field} is not good"),
+            TextFault::OutOfPlace => write!(f, "W and the other lines are out of order"),
+            TextFault::NoCall => write!(f, "the space has not this call"),
+            TextFault::Net(fault) => write!(f, "{fault}"),
+        }
+    }
+}
