@@ -1,13 +1,11 @@
-// A library with one function.
+//! The answers of a job's lines as text, and text put into the caller's bytes.
+
 #![tactic(auto)]
 
-ghost use Rattle.std.specs.Prelude.{◌≡◌};
-ghost use Rattle.reply.specs.Echo.{echo_of};
+mod lines;
+mod places;
+mod reply;
 
-// The `ensures` clause is the contract: what `echo` returns is `echo_of` of its argument, a definition
-// in `specs/Echo.antt`, which a caller's clause can cite too.
-pub fn echo(x: usize) -> usize
-    ensures { result ≡ echo_of x }
-{
-    x
-}
+pub use lines::{LINE, last_line, row_line};
+pub use places::{place, put};
+pub use reply::Reply;

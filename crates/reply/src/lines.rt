@@ -1,0 +1,120 @@
+// The lines of an answer.
+ghost use Rattle.std.specs.Prelude.{◌≡◌, ◌≤◌, ◌+◌, ◌++◌, codes, decimal, length};
+ghost use Rattle.std.specs.Fmt.{signed_decimal};
+ghost use Rattle.arrayvec.specs.ArrayString.{array_string_len};
+ghost use Rattle.reply.specs.Texts.{comma, last_text, layer_letter, no_text, ok_text, refused_as, row_text, values_of};
+ghost use Rattle.net_laws.specs.Faults.{layer_of};
+
+use crate::reply::Reply;
+use arrayvec::ArrayString;
+use itoa::Buffer;
+use net_laws::{Fault, Layer};
+use request::TextFault;
+use tree_laws::Row;
+
+/// The room of a line: no line of an answer is longer.
+pub const LINE: usize = 128;
+
+/// Adds a comma and a number to a line.
+fn push_number(line: &mut ArrayString<128>, n: u64)
+    requires { array_string_len line.old + 21 ≤ 128 }
+    ensures bytes { line.new.bytes ≡ line.old.bytes ++ comma (decimal n) }
+    ensures len { array_string_len line.new ≤ array_string_len line.old + 21 }
+{
+    line.push_str(",");
+    let mut buffer = Buffer::new();
+    line.push_str(buffer.format(n));
+}
+
+/// Adds a comma and a signed number to a line.
+fn push_signed(line: &mut ArrayString<128>, n: i32)
+    requires { array_string_len line.old + 12 ≤ 128 }
+    ensures bytes { line.new.bytes ≡ line.old.bytes ++ comma (signed_decimal n) }
+    ensures len { array_string_len line.new ≤ array_string_len line.old + 12 }
+{
+    line.push_str(",");
+    let mut buffer = Buffer::new();
+    line.push_str(buffer.format(n));
+}
+
+/// The last line of the answer of the line `i`.
+pub fn last_line(i: u64, answer: Result<Reply, TextFault>) -> ArrayString<128>
+    ensures { result.bytes ≡ last_text i answer }
+{
+    match answer {
+        Ok(reply) => ok_line(i, reply),
+        Err(TextFault::LongLine) => no_line(i, "t", 20, 0),
+        Err(TextFault::NoLetter) => no_line(i, "t", 21, 0),
+        Err(TextFault::WrongFields) => no_line(i, "t", 22, 0),
+        Err(TextFault::BadField(field)) => no_line(i, "t", 23, field),
+        Err(TextFault::OutOfPlace) => no_line(i, "t", 24, 0),
+        Err(TextFault::NoCall) => no_line(i, "t", 25, 0),
+        Err(TextFault::Net(fault)) => no_line(i, letter(fault), fault.number(), 0),
+    }
+}
+
+/// Whose refusal it is, as a letter.
+fn letter(fault: Fault) -> &'static str
+    ensures text { result.now ≡ layer_letter (layer_of fault) }
+    ensures short { length result.now ≤ 1 }
+{
+    match fault.layer() {
+        Layer::Space => "s",
+        Layer::Net => "n",
+    }
+}
+
+/// The line of an accepted line.
+fn ok_line(i: u64, reply: Reply) -> ArrayString<128>
+    ensures { result.bytes ≡ ok_text i (values_of reply) }
+{
+    let mut line = ArrayString::<128>::new();
+    line.push_str("ok");
+    push_number(&mut line, i);
+    match reply {
+        Reply::Number(v) => push_number(&mut line, v),
+        Reply::Path(reach) => {
+            push_number(&mut line, reach.path);
+            push_number(&mut line, reach.direct);
+        }
+        Reply::Worst(worst) => {
+            push_number(&mut line, worst.pin as u64);
+            push_number(&mut line, worst.figure);
+        }
+        Reply::Rows(count) => push_number(&mut line, count as u64),
+    }
+    line.push_str("\n");
+    line
+}
+
+/// The line of a refusal.
+fn no_line(i: u64, layer: &str, number: u8, field: u8) -> ArrayString<128>
+    requires { length layer.now ≤ 1 }
+    ensures { result.bytes ≡ no_text i (record { layer = layer.now; number = number; field = field }) }
+{
+    let mut line = ArrayString::<128>::new();
+    line.push_str("no");
+    push_number(&mut line, i);
+    line.push_str(",");
+    line.push_str(layer);
+    push_number(&mut line, u64::from(number));
+    push_number(&mut line, u64::from(field));
+    line.push_str("\n");
+    line
+}
+
+/// The line of a row.
+pub fn row_line(k: u64, row: Row) -> ArrayString<128>
+    ensures { result.bytes ≡ row_text k row }
+{
+    let mut line = ArrayString::<128>::new();
+    line.push_str("N");
+    push_number(&mut line, k);
+    push_number(&mut line, row.parent as u64);
+    push_signed(&mut line, row.spot.x);
+    push_signed(&mut line, row.spot.y);
+    push_signed(&mut line, row.spot.level);
+    push_number(&mut line, row.length);
+    line.push_str("\n");
+    line
+}
