@@ -1,13 +1,13 @@
-// A library with one function.
+//! A job run over a net: text in, text out.
+
 #![tactic(auto)]
 
-ghost use Rattle.std.specs.Prelude.{◌≡◌};
-ghost use Rattle.job.specs.Echo.{echo_of};
+mod answering;
+mod kind;
+mod running;
+mod starting;
+mod tabling;
 
-// The `ensures` clause is the contract: what `echo` returns is `echo_of` of its argument, a definition
-// in `specs/Echo.antt`, which a caller's clause can cite too.
-pub fn echo(x: usize) -> usize
-    ensures { result ≡ echo_of x }
-{
-    x
-}
+pub use kind::JobCall;
+pub use running::{Outcome, run_net};
+pub use starting::run;

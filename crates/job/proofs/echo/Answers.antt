@@ -1,8 +1,0 @@
--- The result is `x`, which is what `echo_of` makes of it.
-use Rattle.std.proofs.Common.{refl}
-use Rattle.job.specs.Echo.{echo_of}
-use Rattle.job.proofs.echo.Goals as goal
-
-pub returns : goal.returns
-unfolding echo_of
-returns c = refl

@@ -1,0 +1,92 @@
+ghost use Rattle.std.specs.Prelude.{◌≡◌, ◌≤◌, ◌<◌, ◌+◌, ◌++◌, length};
+ghost use Rattle.net.specs.Nets.{seen};
+ghost use Rattle.reply.specs.Places.{Puts, put_at};
+ghost use Rattle.reply.specs.Texts.{answer_text, row_text, rows_in, rows_text};
+ghost use Rattle.tree_laws.specs.Trees.{row_of};
+ghost use Rattle.job.specs.Jobs.{Counted, Sized};
+
+use arrayvec::ArrayString;
+use net::Net;
+use reply::{Reply, last_line, place, put, row_line};
+use request::TextFault;
+use space::Space;
+
+/// The line of the row `k`.
+fn line_at<S: Space>(net: &Net<S>, k: usize) -> ArrayString<128>
+    requires { k < length (rows_in (seen net.now.board).tree) }
+    ensures { result.bytes ≡ row_text k (row_of (rows_in (seen net.now.board).tree) k) }
+{
+    let row = net.row(k).unwrap_or_default();
+    row_line(k as u64, row)
+}
+
+/// How many bytes the lines of the rows take; nothing where that is more than `room`.
+fn table_size<S: Space>(net: &Net<S>, count: usize, room: usize) -> Option<usize>
+    requires { count ≡ length (rows_in (seen net.now.board).tree) }
+    ensures { Sized room (length (rows_text 0 (rows_in (seen net.now.board).tree))) result }
+{
+    let mut size = 0;
+    for k in 0..count {
+        let line = line_at(net, k);
+        if line.len() > room - size {
+            return None;
+        }
+        size += line.len();
+    }
+    Some(size)
+}
+
+/// Puts the lines of the rows at a place where they fit, and answers the place behind them.
+fn put_rows<S: Space>(net: &Net<S>, count: usize, out: &mut [u8], at: usize) -> usize
+    requires count { count ≡ length (rows_in (seen net.now.board).tree) }
+    requires fits { at + length (rows_text 0 (rows_in (seen net.now.board).tree)) ≤ length out.old }
+    ensures end { result ≡ at + length (rows_text 0 (rows_in (seen net.now.board).tree)) }
+    ensures bytes { out.new ≡ put_at out.old at (rows_text 0 (rows_in (seen net.now.board).tree)) }
+{
+    let mut end = at;
+    for k in 0..count {
+        let line = line_at(net, k);
+        end = place(out, end, line.as_bytes());
+    }
+    end
+}
+
+/// Puts the rows and the last line at a place, and answers the place behind them; nothing, with nothing changed, where they do not fit.
+fn put_table<S: Space>(
+    net: &Net<S>,
+    count: usize,
+    last: &[u8],
+    out: &mut [u8],
+    at: usize,
+) -> Option<usize>
+    requires count { count ≡ length (rows_in (seen net.now.board).tree) }
+    requires at { at ≤ length out.old }
+    ensures { Puts out.old at (rows_text 0 (rows_in (seen net.now.board).tree) ++ last.now) result out.new }
+{
+    let room = out.len() - at;
+    let size = table_size(net, count, room)?;
+    if last.len() > room - size {
+        return None;
+    }
+    let end = put_rows(net, count, out, at);
+    put(out, end, last)
+}
+
+/// Puts the whole answer of a line at a place, and answers the place behind it; nothing, with nothing changed, where it does not fit.
+pub(crate) fn put_answer<S: Space>(
+    net: &Net<S>,
+    number: u64,
+    answer: Result<Reply, TextFault>,
+    out: &mut [u8],
+    at: usize,
+) -> Option<usize>
+    requires at { at ≤ length out.old }
+    requires counted { Counted (seen net.now.board) answer }
+    ensures { Puts out.old at (answer_text (seen net.now.board) number answer) result out.new }
+{
+    let last = last_line(number, answer);
+    match answer {
+        Ok(Reply::Rows(count)) => put_table(net, count, last.as_bytes(), out, at),
+        _ => put(out, at, last.as_bytes()),
+    }
+}
