@@ -134,6 +134,7 @@ fn run_in(
 /// Answers the lines of a job, up to the first whose whole answer does not fit; fails, with nothing written, where there is no memory for the net.
 pub fn run(heap: Global, job: &[u8], out: &mut [u8]) -> Result<Outcome, AllocError>
     ensures ran { IfOk result (λ o. JobRan job.now out.old out.new o) }
+    ensures room { IfOk result (λ o. o.bytes ≤ length out.old) }
     ensures err { OnErr result (out.new ≡ out.old) }
 {
     let Some((line, rest)) = next_line(job) else {

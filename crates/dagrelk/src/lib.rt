@@ -1,0 +1,44 @@
+// The run of a job, for programs in C: `include/dagrelk.h`.
+#![tactic(auto)]
+
+ghost use Rattle.dagrelk.specs.Outcomes.{RanForC};
+
+use job::run;
+use std::alloc::Global;
+
+/// Each line of the job was answered.
+pub const END: u32 = 0;
+
+/// The whole answer of the next line did not fit.
+pub const FULL: u32 = 1;
+
+/// There was no memory for the net, and nothing was done.
+pub const NO_MEMORY: u32 = 2;
+
+/// What a run did: how many lines it answered, how many bytes it wrote, and why it stopped.
+#[repr(C)]
+#[derive(Clone, Copy, Debug)]
+pub struct JobOutcome {
+    pub lines: usize,
+    pub bytes: usize,
+    pub stop: u32,
+}
+
+/// Runs a job, as `dagrelk_run(job, job_len, out, out_len)` in C.
+#[unsafe(no_mangle)]
+pub extern "C" fn dagrelk_run(heap: Global, job: &[u8], out: &mut [u8]) -> JobOutcome
+    ensures { RanForC job.now out.old out.new result }
+{
+    match run(heap, job, out) {
+        Ok(outcome) => JobOutcome {
+            lines: outcome.lines,
+            bytes: outcome.bytes,
+            stop: if outcome.stopped { FULL } else { END },
+        },
+        Err(_) => JobOutcome {
+            lines: 0,
+            bytes: 0,
+            stop: NO_MEMORY,
+        },
+    }
+}
