@@ -1,3 +1,4 @@
 mod Lining
 mod Parting
 mod Few
+mod Once

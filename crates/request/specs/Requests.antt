@@ -148,3 +148,11 @@ Reads line (Err (BadField f)) = (length line ≤ 80) × ReadsFields (fields_of l
 Reads line (Err OutOfPlace) = ⊥
 Reads line (Err NoCall) = ⊥
 Reads line (Err (Net e)) = ⊥
+
+-- The line reads so, and in no other way.
+abbrev pub ReadsOnly : List ℕ → Result Request TextFault → Type 0
+ReadsOnly line r = (s : Result Request TextFault) → Reads line s → s ≡ r
+
+-- The line is in the grammar: it spells a request whose numbers are within their ranges.
+abbrev pub InGrammar : List ℕ → Type 0
+InGrammar line = (r : Request) × (length line ≤ 80) × Ranged r × (fields_of line ≡ spelled r)

@@ -1,6 +1,6 @@
-ghost use Rattle.std.specs.Prelude.{◌≡◌, [], ◌∷◌, codes, map};
+ghost use Rattle.std.specs.Prelude.{◌≡◌, ◌↔◌, [], ◌∷◌, IsOk, codes, map};
 ghost use Rattle.net_laws.specs.declared.call.JoinCall.TheVariants.{Wire};
-ghost use Rattle.request.specs.Requests.{Reads, ReadsFields};
+ghost use Rattle.request.specs.Requests.{InGrammar, Reads, ReadsFields, ReadsOnly};
 ghost use Rattle.request.specs.declared.requests.Request.TheVariants.{Change};
 
 use crate::cutting::{PLACES, cut};
@@ -144,7 +144,9 @@ fn read_fields(fields: &[&[u8]]) -> Result<Request, TextFault>
 
 /// What a line asks, or its refusal as text. The line stands without its byte 10.
 pub fn read(line: &[u8]) -> Result<Request, TextFault>
-    ensures { Reads line.now result }
+    ensures reads { Reads line.now result }
+    ensures only { ReadsOnly line.now result }
+    ensures taken { IsOk result ↔ InGrammar line.now }
 {
     if line.len() > LONGEST_LINE {
         return Err(TextFault::LongLine);

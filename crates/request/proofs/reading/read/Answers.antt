@@ -1,7 +1,8 @@
 use Rattle.std.proofs.Common.{ℕ, List, take, subst, arith, length-take}
 use Rattle.request.specs.Lines.{fields_of}
-use Rattle.request.specs.Requests.{ReadsFields}
+use Rattle.request.specs.Requests.{Reads, ReadsFields}
 use Rattle.request.proofs.Few.{few, reads}
+use Rattle.request.proofs.Once.{in_read, read_in, reads_only}
 use Rattle.request.proofs.reading.read.Goals as goal
 
 pub slice_bounds-fields-end-2 : goal.slice_bounds-fields-end-2
@@ -17,4 +18,5 @@ returns c =
     let r = c.read_fields.result in
     let P : List (List ℕ) → Type 0 = λ fs. ReadsFields fs r in
     let seen : ReadsFields (take 5 (fields_of line)) r = subst P c.cut-count.ensures.parts c.read_fields.ensures in
-    reads line r (omega arith) (few (fields_of line) r seen)
+    let is : Reads line r = reads line r (omega arith) (few (fields_of line) r seen) in
+    record { reads = is; only = reads_only line r is; taken = (read_in line r is, in_read line r is) }
