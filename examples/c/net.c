@@ -33,7 +33,7 @@ static const char wanted[] = "ok,1,0\n"
                              "N,3,0,4,1,0,5\n"
                              "ok,11,4\n";
 
-static void fail(const char *what)
+static _Noreturn void fail(const char *what)
 {
     fprintf(stderr, "net: %s\n", what);
     exit(1);

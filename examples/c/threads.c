@@ -16,7 +16,7 @@
 #define NETS 200
 #endif
 
-static void fail(const char *what)
+static _Noreturn void fail(const char *what)
 {
     fprintf(stderr, "threads: %s\n", what);
     exit(1);
