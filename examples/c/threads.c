@@ -256,7 +256,7 @@ static void small_stack(void)
         fail("the joined wire is not the wire now and what was saved");
     if (straight != STRAIGHT_WIRE || joined != JOINED_WIRE || hooks != HOOKS || shares != SHARES || saved != SAVED || rows != CHAIN_ROWS)
         fail("not the figures that were wanted");
-    printf("its thread used %zu of %d bytes of stack\n", used, STACK);
+    printf("its thread used %zu of %d bytes of stack, with what the C library keeps there\n", used, STACK);
 }
 
 int main(void)
