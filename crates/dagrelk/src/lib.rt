@@ -7,10 +7,10 @@ use job::run;
 use std::alloc::Global;
 
 /// Each line of the job was answered.
-pub const END: u32 = 0;
+pub const ANSWERED: u32 = 0;
 
 /// The whole answer of the next line did not fit.
-pub const FULL: u32 = 1;
+pub const NO_ROOM: u32 = 1;
 
 /// There was no memory for the net, and nothing was done.
 pub const NO_MEMORY: u32 = 2;
@@ -33,7 +33,7 @@ pub extern "C" fn dagrelk_run(heap: Global, job: &[u8], out: &mut [u8]) -> JobOu
         Ok(outcome) => JobOutcome {
             lines: outcome.lines,
             bytes: outcome.bytes,
-            stop: if outcome.stopped { FULL } else { END },
+            stop: if outcome.stopped { NO_ROOM } else { ANSWERED },
         },
         Err(_) => JobOutcome {
             lines: 0,

@@ -1,16 +1,13 @@
 -- Line 1, and the rest of the job behind it.
-use Rattle.std.proofs.Common.{◌≡◌, ℕ, ◌+◌, ◌<◌, true, List, [], ◌∷◌, ◌++◌, length, drop, take, refl, arith, Result, Ok, Err, IfOk, Some, None, ◌∙◌, ap, ◌≤◌}
+use Rattle.std.proofs.Common.{◌≡◌, ℕ, ◌+◌, true, List, [], ◌++◌, length, drop, take, refl, arith, Result, Some, None, ◌∙◌, ap, ◌≤◌}
 use Rattle.std.proofs.lemmas.List.{append-nil, drop_all, length-drop}
-use Rattle.request.specs.Requests.{Reads}
-use Rattle.request.specs.Lines.{lines_of}
-use Rattle.request.specs.declared.requests.Request.{Request}
 use Rattle.request.specs.declared.fault.TextFault.{TextFault}
 use Rattle.reply.specs.Places.{Puts}
 use Rattle.reply.specs.Texts.{answer_text}
 use Rattle.reply.specs.declared.reply.Reply.{Reply}
 use Rattle.job.specs.Answering.{net_of}
-use Rattle.job.specs.Jobs.{Begun, JobRan, Ran}
-use Rattle.job.specs.Stages.{Follows, Stage}
+use Rattle.job.specs.Jobs.{Begun, Ran}
+use Rattle.job.specs.Stages.{Stage}
 use Rattle.job.specs.Stages.Stage.{before}
 use Rattle.job.specs.declared.running.Outcome.{Outcome}
 use Rattle.job.proofs.Going.{begins, goes_on, goes_to_end, stops_at}
@@ -29,8 +26,3 @@ pub given_back : (e k : ℕ) (xs ys : List ℕ) → length xs ≤ e + k → take
 given_back e k xs ys h =
     let none : drop k (drop e xs) ≡ [] = drop_all k (drop e xs) (omega (arith, h, length-drop e xs)) in
     ap (λ zs. take e xs ++ (ys ++ zs)) none ∙ ap (λ zs. take e xs ++ zs) (append-nil ys)
-
--- The job that begins with line 1.
-pub opened : {E : Type 0} (q : Result Outcome E) (s : Stage) (r : Result Reply TextFault) (rest old new job line : List ℕ) (asked : Result Request TextFault) → lines_of job ≡ line ∷ lines_of rest → length rest < length job → Reads line asked → Follows asked before s r → IfOk q (λ o. Begun s r rest old new o) → IfOk q (λ o. JobRan job old new o)
-opened (Ok o) s r rest old new job line asked cut shorter reads follows h = h job line asked cut shorter reads follows
-opened (Err e) s r rest old new job line asked cut shorter reads follows h = tt

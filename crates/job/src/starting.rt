@@ -1,9 +1,10 @@
-ghost use Rattle.std.specs.Prelude.{◌≡◌, ◌≤◌, length, IfOk, OnErr, Ok, Err};
+ghost use Rattle.std.specs.Prelude.{◌≡◌, ◌≤◌, length, IfErr, IfOk, OnErr, Ok, Err};
 ghost use Rattle.net_laws.specs.States.{fresh};
 ghost use Rattle.reply.specs.declared.reply.Reply.TheVariants.{Number};
 ghost use Rattle.job.specs.Jobs.{AnswersLine, Begun, JobRan, Ran};
-ghost use Rattle.job.specs.Stages.Stage.{over, without};
-ghost use Rattle.job.specs.Stages.{joins_of, world_of};
+ghost use Rattle.job.specs.Stages.Stage.{before, over, without};
+ghost use Rattle.job.specs.Stages.{Follows, joins_of, world_of};
+ghost use Rattle.request.specs.declared.requests.Request.TheVariants as asks;
 
 use crate::kind::JobCall;
 use crate::running::{Outcome, run_net};
@@ -131,6 +132,17 @@ fn run_in(
     }
 }
 
+/// The space that line 1 asks for; the refusal of line 1 where it asks for none.
+fn opening(asked: Result<Request, TextFault>) -> Result<(Word, Option<u32>), TextFault>
+    ensures ok { IfOk result (λ s. asked ≡ Ok (asks.Space s.0 s.1)) }
+    ensures err { IfErr result (λ e. Follows asked before without (Err e)) }
+{
+    match asked? {
+        Request::Space(word, price) => Ok((word, price)),
+        _ => Err(TextFault::OutOfPlace),
+    }
+}
+
 /// Answers the lines of a job, up to the first whose whole answer does not fit; fails, with nothing written, where there is no memory for the net.
 pub fn run(heap: Global, job: &[u8], out: &mut [u8]) -> Result<Outcome, AllocError>
     ensures ran { IfOk result (λ o. JobRan job.now out.old out.new o) }
@@ -144,9 +156,8 @@ pub fn run(heap: Global, job: &[u8], out: &mut [u8]) -> Result<Outcome, AllocErr
             stopped: false,
         });
     };
-    match read(line) {
-        Ok(Request::Space(word, price)) => run_in(heap, word, price, rest, out),
-        Ok(_) => Ok(run_without(TextFault::OutOfPlace, rest, out)),
+    match opening(read(line)) {
+        Ok((word, price)) => run_in(heap, word, price, rest, out),
         Err(fault) => Ok(run_without(fault, rest, out)),
     }
 }
