@@ -6,9 +6,9 @@ use Rattle.reply.specs.Places.{put_at}
 use Rattle.reply.specs.Texts.{answer_text}
 use Rattle.job.specs.Answering.{Gives, LineGives, Told, Under, log_of, net_of, stage_after, text_from}
 use Rattle.job.specs.Jobs.{AnswersLine, Ran, Stops}
-use Rattle.job.specs.Stages.{Stage}
+use Rattle.job.specs.Stages.{Laws, Stage}
 use Rattle.job.specs.declared.running.Outcome.{Outcome}
-use Rattle.job.proofs.Lines.{Laws, after_both, after_more, gives_both, gives_more, text_both, text_more, under}
+use Rattle.job.proofs.Lines.{after_both, after_more, gives_both, gives_more, text_both, text_more, under}
 use Rattle.job.proofs.Places.{length_put, put_put}
 
 pub record Going (i : ℕ) (n m : Stage) (job rest before now : List ℕ) (count size : ℕ) : Type 0 where

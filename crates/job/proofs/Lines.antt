@@ -23,7 +23,7 @@ use Rattle.reply.specs.Texts.{answer_text}
 use Rattle.reply.specs.declared.reply.Reply.{Reply}
 use Rattle.reply.specs.declared.reply.Reply.TheVariants.{Number, Path, Worst, Rows}
 use Rattle.job.specs.Answering.{Gives, LineGives, New, Told, Under, log_of, made_by, net_of, stage_after, text_from}
-use Rattle.job.specs.Stages.{Follows, NetFollows, Stage, joins_of, world_of}
+use Rattle.job.specs.Stages.{Follows, Laws, NetFollows, Stage, joins_of, world_of}
 use Rattle.job.specs.Stages.Stage.{before, over, without}
 
 pub after_more : (n : Stage) (ts : List Told) (t : Told) → stage_after n (ts ++ t ∷ []) ≡ t.after
@@ -141,12 +141,6 @@ from_before (Ok asks.Rows) s r ts h g = nothing_under (log_of ts ++ []) s ts h.1
 from_before (Ok (asks.Path k)) s r ts h g = nothing_under (log_of ts ++ []) s ts h.1 g
 from_before (Ok asks.Worst) s r ts h g = nothing_under (log_of ts ++ []) s ts h.1 g
 from_before (Err e) s r ts h g = nothing_under (log_of ts ++ []) s ts h.1 g
-
--- The laws, where there is a net.
-abbrev pub Laws : Stage → Type 0
-Laws before = Unit {0}
-Laws without = Unit {0}
-Laws (over W joins n) = Keeps W
 
 -- What the net holds is under the guarantee.
 pub under : (s : Stage) (ts : List Told) → Laws s → New s → Gives s ts → Under (log_of ts) (stage_after s ts)

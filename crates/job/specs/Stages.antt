@@ -3,6 +3,7 @@ use Rattle.std.specs.Prelude.{◌≡◌, ℕ, Bool, true, false, Ok, Err, Result
 use Rattle.net_laws.specs.Answers.{JoinAnswers, World}
 use Rattle.net_laws.specs.Readings.{PathAnswer, RowsAnswer, WorstAnswer}
 use Rattle.net_laws.specs.States.{State, fresh}
+use Rattle.net_laws.specs.Worlds.{Keeps}
 use Rattle.net_laws.specs.declared.call.JoinCall.{JoinCall}
 use Rattle.net_laws.specs.declared.call.JoinCall.TheVariants.{Wire, Joined, Share}
 use Rattle.space.specs.Shapes.{air_between, grid_between, grid_meeting, in_range, lift_admitted, lift_between, lift_meeting, lift_width}
@@ -120,3 +121,9 @@ Follows (Err e) before s r = (r ≡ Err e) × (s ≡ without)
 Follows (Ok a) without s r = (r ≡ Err OutOfPlace) × (s ≡ without)
 Follows (Err e) without s r = (r ≡ Err e) × (s ≡ without)
 Follows a (over W joins n) s r = (m : State) × (s ≡ over W joins m) × NetFollows W joins a n m r
+
+-- The laws of the space, where there is a net.
+abbrev pub Laws : Stage → Type 0
+Laws before = Unit {0}
+Laws without = Unit {0}
+Laws (over W joins n) = Keeps W

@@ -6,7 +6,7 @@ use net_laws::{Call, JoinCall};
 use space::{Joining, Space};
 
 /// A kind of call, and which of the calls of a job it has.
-pub trait JobCall<S: Space>: NetCall<S> + Copy {
+pub(crate) trait JobCall<S: Space>: NetCall<S> + Copy {
     // Whether the space joins.
     ghost joins: { Bool };
 

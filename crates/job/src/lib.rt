@@ -8,6 +8,5 @@ mod running;
 mod starting;
 mod tabling;
 
-pub use kind::JobCall;
-pub use running::{Outcome, run_net};
+pub use running::Outcome;
 pub use starting::run;

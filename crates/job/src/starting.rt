@@ -1,60 +1,48 @@
-ghost use Rattle.std.specs.Prelude.{◌≡◌, ◌≤◌, length, IfErr, IfOk, OnErr, Ok, Err};
+ghost use Rattle.std.specs.Prelude.{◌≡◌, ◌≤◌, [], length, IfErr, IfOk, OnErr, Ok, Err};
 ghost use Rattle.net_laws.specs.States.{fresh};
+ghost use Rattle.request.specs.declared.requests.Request.TheVariants as asks;
+ghost use Rattle.reply.specs.Texts.{table_text};
 ghost use Rattle.reply.specs.declared.reply.Reply.TheVariants.{Number};
-ghost use Rattle.job.specs.Jobs.{AnswersLine, Begun, JobRan, Ran};
+ghost use Rattle.job.specs.Answering.{net_of};
+ghost use Rattle.job.specs.Jobs.{Begun, JobRan};
 ghost use Rattle.job.specs.Stages.Stage.{before, over, without};
 ghost use Rattle.job.specs.Stages.{Follows, joins_of, world_of};
-ghost use Rattle.request.specs.declared.requests.Request.TheVariants as asks;
 
+use crate::answering::{Answerer, NoNet, OverNet};
 use crate::kind::JobCall;
-use crate::running::{Outcome, run_net};
+use crate::running::{Outcome, run_lines};
 use net::Net;
 use net_laws::{Call, JoinCall};
 use reply::{Reply, last_line, put};
 use request::{Request, TextFault, Word, next_line, read};
 use space::{Air, Lift, Plane, Space};
 use std::alloc::{AllocError, Global};
+use std::marker::PhantomData;
 
-/// Refuses the lines of a job where there is no net, up to the first whose answer does not fit. The first of them has the number `first`.
-fn refuse_all(first: u64, job: &[u8], out: &mut [u8]) -> Outcome
-    requires { first ≤ 2 }
-    ensures ran { Ran first without without job.now out.old out.new result }
-    ensures few { result.lines ≤ length job.now }
-    ensures room { result.bytes ≤ length out.old }
+/// Answers line 1 by one line, and then the rest of the job.
+fn run_behind<A: Answerer + Drop>(
+    mut answerer: A,
+    answer: Result<Reply, TextFault>,
+    rest: &[u8],
+    out: &mut [u8],
+) -> Outcome
+    requires { table_text (net_of (A.stage answerer)) answer ≡ [] }
+    ensures { Begun (A.stage answerer) answer rest.now out.old out.new result }
 {
-    let mut rest = job;
-    let mut lines = 0;
-    let mut bytes = 0;
-    while let Some((line, behind)) = next_line(rest) {
-        let Some(end) = refuse_at(first + lines as u64, line, out, bytes) else {
-            return Outcome {
-                lines,
-                bytes,
-                stopped: true,
-            };
+    let text = last_line(1, answer);
+    let Some(end) = put(out, 0, text.as_bytes()) else {
+        return Outcome {
+            lines: 0,
+            bytes: 0,
+            stopped: true,
         };
-        bytes = end;
-        lines += 1;
-        rest = behind;
-    }
-    Outcome {
-        lines,
-        bytes,
-        stopped: false,
-    }
-}
-
-/// Refuses a line where there is no net.
-fn refuse_at(number: u64, line: &[u8], out: &mut [u8], at: usize) -> Option<usize>
-    requires { at ≤ length out.old }
-    ensures { AnswersLine line.now number without without out.old at result out.new }
-{
-    let refusal = match read(line) {
-        Ok(_) => TextFault::OutOfPlace,
-        Err(refusal) => refusal,
     };
-    let text = last_line(number, Err(refusal));
-    put(out, at, text.as_bytes())
+    let ran = run_lines(&mut answerer, rest, &mut out[end..]);
+    Outcome {
+        lines: 1 + ran.lines,
+        bytes: end + ran.bytes,
+        stopped: ran.stopped,
+    }
 }
 
 /// Answers line 1, which makes a net in the space, and then the rest of the job over that net.
@@ -67,41 +55,12 @@ fn run_over<S: Space + Drop, C: JobCall<S>>(
     ensures begun { IfOk result (λ o. Begun (over (C.NetCall.world space) C.JobCall.joins fresh) (Ok (Number 0)) rest.now out.old out.new o) }
     ensures err { OnErr result (out.new ≡ out.old) }
 {
-    let mut net = Net::new(heap, space)?;
-    let text = last_line(1, Ok(Reply::Number(0)));
-    let Some(end) = put(out, 0, text.as_bytes()) else {
-        return Ok(Outcome {
-            lines: 0,
-            bytes: 0,
-            stopped: true,
-        });
+    let net = Net::new(heap, space)?;
+    let answerer = OverNet::<S, C> {
+        net,
+        calls: PhantomData,
     };
-    let ran = run_net::<S, C>(&mut net, 2, rest, &mut out[end..]);
-    Ok(Outcome {
-        lines: 1 + ran.lines,
-        bytes: end + ran.bytes,
-        stopped: ran.stopped,
-    })
-}
-
-/// Refuses line 1, and then the rest of the job.
-fn run_without(refusal: TextFault, rest: &[u8], out: &mut [u8]) -> Outcome
-    ensures { Begun without (Err refusal) rest.now out.old out.new result }
-{
-    let text = last_line(1, Err(refusal));
-    let Some(end) = put(out, 0, text.as_bytes()) else {
-        return Outcome {
-            lines: 0,
-            bytes: 0,
-            stopped: true,
-        };
-    };
-    let ran = refuse_all(2, rest, &mut out[end..]);
-    Outcome {
-        lines: 1 + ran.lines,
-        bytes: end + ran.bytes,
-        stopped: ran.stopped,
-    }
+    Ok(run_behind(answerer, Ok(Reply::Number(0)), rest, out))
 }
 
 /// Answers line 1, a W, and then the rest of the job.
@@ -158,6 +117,6 @@ pub fn run(heap: Global, job: &[u8], out: &mut [u8]) -> Result<Outcome, AllocErr
     };
     match opening(read(line)) {
         Ok((word, price)) => run_in(heap, word, price, rest, out),
-        Err(fault) => Ok(run_without(fault, rest, out)),
+        Err(fault) => Ok(run_behind(NoNet, Err(fault), rest, out)),
     }
 }
