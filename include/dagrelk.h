@@ -52,7 +52,7 @@ struct dagrelk_outcome {
  *
  * Threads. There are no globals. Calls in different threads do not touch each other. A net lives as long as the call that runs it.
  *
- * Memory. A net takes 124,928 bytes from malloc (on x86-64), in 10 pieces. The call asks for them when line 1 is an accepted W, and gives them
+ * Memory. A net takes 124,928 bytes from malloc (on x86-64), in 9 pieces. The call asks for them when line 1 is an accepted W, and gives them
  * back before it returns. Only that can fail for want of memory.
  *
  * Stack. A call takes less than 18 KiB, whatever the job (measured on x86-64: 17,656 bytes with the lazy binding of C functions).
