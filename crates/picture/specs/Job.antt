@@ -1,5 +1,5 @@
 -- The call that a line of a job asks. Assumes nothing.
-use Rattle.std.specs.Prelude.{ℕ, Bool, List, [], ◌∷◌, ◌==◌, ◌||◌, if◌then◌else◌, nat_eq, codes}
+use Rattle.std.specs.Prelude.{ℕ, Bool, List, [], ◌∷◌, ◌==◌, ◌||◌, if◌then◌else◌, ◌-◌, nat_eq, codes, slice_get, unwrap_or}
 use Rattle.std.specs.List.{starts_with}
 use Rattle.picture.specs.declared.job.Space.{Space}
 use Rattle.picture.specs.declared.job.Space.TheVariants.{Air, Plane}
@@ -29,3 +29,7 @@ letter_call c word =
 abbrev pub call_of : List ℕ → Call
 call_of [] = Other
 call_of (c ∷ word) = letter_call c word
+
+-- The call on a line, counted from 1.
+abbrev pub call_on_line : List Call → ℕ → Call
+call_on_line calls line = if line == 0 then Other else unwrap_or (slice_get calls (line - 1)) Other

@@ -1,3 +1,5 @@
+pub mod Answer
 pub mod Counts
 pub mod Frame
 pub mod Job
+pub mod Net

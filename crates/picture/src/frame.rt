@@ -1,6 +1,5 @@
 // Where the spots of a tree lie on the sheet.
 ghost use Rattle.std.specs.Prelude.{◌≡◌, ◌+◌, ◌*◌, ◌/◌, ◌<◌, ◌≤◌, ◌≤ℤ◌, min, max};
-ghost use Rattle.picture.specs.Frame.{steps_of};
 
 use space::Spot;
 
@@ -38,8 +37,13 @@ fn scaled(distance: u32, span: u32) -> u64
 }
 
 impl Frame {
+    ghost use Rattle.picture.specs.Frame.{Holds, IsWithin, corner_of, place_of, span_of};
+
     /// The box of one spot.
-    pub fn at(spot: Spot) -> Frame {
+    pub fn at(spot: Spot) -> Frame
+        ensures holds { Holds result spot }
+        ensures least { (g : Frame) → Holds g spot → IsWithin result g }
+    {
         let Spot { x, y, level: _ } = spot;
         Frame {
             left: x,
@@ -49,8 +53,12 @@ impl Frame {
         }
     }
 
-    /// The box, made larger so that it holds the spot.
-    pub fn with(self, spot: Spot) -> Frame {
+    /// The least box that holds all that a box holds, and a spot.
+    pub fn with(self, spot: Spot) -> Frame
+        ensures holds { Holds result spot }
+        ensures keeps { IsWithin self result }
+        ensures least { (g : Frame) → IsWithin self g → Holds g spot → IsWithin result g }
+    {
         Frame {
             left: self.left.min(spot.x),
             right: self.right.max(spot.x),
@@ -60,9 +68,38 @@ impl Frame {
     }
 
     /// The distance that fills a side of the sheet: the longer side of the box, and at least 1.
-    fn span(self) -> u32 {
+    fn span(self) -> u32
+        ensures { result ≡ span_of self }
+    {
         let width = self.right.abs_diff(self.left);
         let height = self.top.abs_diff(self.bottom);
         width.max(height).max(1)
+    }
+
+    /// The lower right corner of the sheet: the box at its size on the sheet, and a margin on both sides.
+    pub fn corner(self) -> Place
+        ensures { result ≡ corner_of self }
+    {
+        let span = self.span();
+        Place {
+            x: 2 * MARGIN + scaled(self.right.abs_diff(self.left), span),
+            y: 2 * MARGIN + scaled(self.top.abs_diff(self.bottom), span),
+        }
+    }
+
+    /// The place of a spot on the sheet, with y turned round: a spot that is higher in the net has a lower y. A spot beyond the box is
+    /// put on its edge.
+    pub fn place(self, spot: Spot) -> Place
+        ensures exact { Holds self spot → result ≡ place_of self spot }
+        ensures right { (MARGIN ≤ result.x) × (result.x + MARGIN ≤ (corner_of self).x) }
+        ensures down { (MARGIN ≤ result.y) × (result.y + MARGIN ≤ (corner_of self).y) }
+    {
+        let span = self.span();
+        let x = spot.x.clamp(self.left, self.right);
+        let y = spot.y.clamp(self.bottom, self.top);
+        Place {
+            x: MARGIN + scaled(x.abs_diff(self.left), span),
+            y: MARGIN + scaled(self.top.abs_diff(y), span),
+        }
     }
 }

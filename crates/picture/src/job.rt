@@ -1,7 +1,7 @@
 // The calls of a job.
 ghost use Rattle.std.specs.Prelude.{◌≡◌, ◌==◌, map, IfOk};
 ghost use Rattle.std.specs.List.{slice_split};
-ghost use Rattle.picture.specs.Job.{call_of, letter_call, space_of};
+ghost use Rattle.picture.specs.Job.{call_of, call_on_line, letter_call, space_of};
 
 use std::alloc::{AllocError, Global};
 
@@ -79,4 +79,17 @@ pub fn calls(alloc: Global, job: &[u8]) -> Result<Vec<Call>, AllocError>
     ensures { IfOk result (λ v. v.items ≡ map call_of (slice_split (λ b. b == 10) job.now)) }
 {
     job.split(|b| *b == b'\n').map(Call::of).collect(alloc)
+}
+
+/// The call on a line of the job, where lines count from 1; a call of no kind where there is no such line.
+pub fn call_at(calls: &[Call], line: u64) -> Call
+    ensures { result ≡ call_on_line calls.now line }
+{
+    let Some(k) = line.checked_sub(1) else {
+        return Call::Other;
+    };
+    match usize::try_from(k) {
+        Ok(k) => calls.get(k).copied().unwrap_or(Call::Other),
+        Err(_) => Call::Other,
+    }
 }

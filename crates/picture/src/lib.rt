@@ -2,10 +2,21 @@
 
 #![tactic(auto)]
 
+mod answer;
 mod counts;
 mod frame;
 mod job;
+mod net;
+mod reading;
+mod row;
+mod shapes;
+mod sheet;
 
+pub use answer::{Answer, ParseAnswerError};
 pub use counts::{Counts, Kind};
 pub use frame::{Frame, MARGIN, Place, SIDE};
-pub use job::{Call, Space, calls};
+pub use job::{Call, Space, call_at, calls};
+pub use net::Net;
+pub use sheet::Picture;
+pub use reading::{Reading, Table};
+pub use row::Row;
