@@ -1,6 +1,6 @@
 -- Where spots lie on the sheet. Assumes nothing.
-use Rattle.std.specs.Prelude.{ℕ, ◌+◌, ◌*◌, ◌/◌, ◌≤ℤ◌, ◌-ℤ◌, ℤ, max}
-use Rattle.std.specs.Int.RustNames.{unsigned_abs}
+use Rattle.std.specs.Prelude.{ℕ, ◌+◌, ◌*◌, ◌/◌, ◌≤◌, ◌≤ℤ◌, max}
+use Rattle.picture.specs.Distances.{apart}
 use Rattle.space.specs.declared.spot.Spot.{Spot}
 use Rattle.picture.specs.declared.frame.Frame.{Frame}
 use Rattle.picture.specs.declared.frame.Place.{Place}
@@ -19,10 +19,6 @@ pub record IsWithin (f g : Frame) : Type 0 where
   pub bottom : g.bottom ≤ℤ f.bottom
   pub top : f.top ≤ℤ g.top
 
--- How far it is from a to b.
-abbrev pub apart : ℤ → ℤ → ℕ
-apart a b = unsigned_abs (b -ℤ a)
-
 -- The longer side of the box, and at least 1: it is 10,000 long on the sheet.
 abbrev pub span_of : Frame → ℕ
 span_of f = max (max (apart f.left f.right) (apart f.bottom f.top)) 1
@@ -38,3 +34,10 @@ corner_of f = record { x = 1200 + scaled_of f (apart f.left f.right); y = 1200 +
 -- The place of a spot: x from the left side of the box, y down from its upper side.
 abbrev pub place_of : Frame → Spot → Place
 place_of f s = record { x = 600 + scaled_of f (apart f.left s.x); y = 600 + scaled_of f (apart s.y f.top) }
+
+-- A place within the margins of the sheet.
+pub record IsOnSheet (f : Frame) (p : Place) : Type 0 where
+  pub left : 600 ≤ p.x
+  pub right : p.x + 600 ≤ (corner_of f).x
+  pub upper : 600 ≤ p.y
+  pub lower : p.y + 600 ≤ (corner_of f).y

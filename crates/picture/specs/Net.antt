@@ -16,13 +16,14 @@ net_after call.Worst v n = record { space = n.space; counts = n.counts; worst = 
 net_after call.Table v n = n
 net_after call.Other v n = n
 
--- Whether an accepted call leaves the tree as it was: X, T, and what is no call of the job.
-abbrev pub keeps_tree : Call → Bool
-keeps_tree (call.Net s) = false
-keeps_tree call.Pin = false
-keeps_tree call.Steiner = false
-keeps_tree call.Seed = false
-keeps_tree call.Change = false
-keeps_tree call.Worst = true
-keeps_tree call.Table = true
-keeps_tree call.Other = true
+-- Whether a kept table is of the tree as it is after an accepted call: a table that is made is, a change ends it, and X and all else
+-- leave it as it was.
+abbrev pub current_after : Call → Bool → Bool
+current_after (call.Net s) b = false
+current_after call.Pin b = false
+current_after call.Steiner b = false
+current_after call.Seed b = false
+current_after call.Change b = false
+current_after call.Worst b = b
+current_after call.Table b = true
+current_after call.Other b = b

@@ -1,5 +1,6 @@
 // Where the spots of a tree lie on the sheet.
-ghost use Rattle.std.specs.Prelude.{◌≡◌, ◌+◌, ◌*◌, ◌/◌, ◌<◌, ◌≤◌, ◌≤ℤ◌, min, max};
+ghost use Rattle.std.specs.Prelude.{◌≡◌, ◌≤◌, ◌≤ℤ◌};
+ghost use Rattle.picture.specs.Distances.{apart};
 
 use space::Spot;
 
@@ -27,17 +28,26 @@ pub struct Frame {
     ghost upright: { bottom ≤ℤ top },
 }
 
-/// A distance in the tree as a distance on the sheet, where `span` fills a side.
-fn scaled(distance: u32, span: u32) -> u64
-    requires some { 0 < span }
-    requires within { distance ≤ span }
-    ensures { result ≡ distance * SIDE / span }
+/// How far it is from the lower end of a range to a number, which counts as the nearer end where it lies beyond the range.
+fn from_low(low: i32, high: i32, at: i32) -> u32
+    requires { low ≤ℤ high }
+    ensures exact { low ≤ℤ at → at ≤ℤ high → result ≡ apart low at }
+    ensures within { result ≤ apart low high }
 {
-    u64::from(distance) * SIDE / u64::from(span)
+    at.clamp(low, high).abs_diff(low)
+}
+
+/// How far it is from a number to the upper end of a range; a number beyond the range counts as the nearer end.
+fn to_high(low: i32, high: i32, at: i32) -> u32
+    requires { low ≤ℤ high }
+    ensures exact { low ≤ℤ at → at ≤ℤ high → result ≡ apart at high }
+    ensures within { result ≤ apart low high }
+{
+    high.abs_diff(at.clamp(low, high))
 }
 
 impl Frame {
-    ghost use Rattle.picture.specs.Frame.{Holds, IsWithin, corner_of, place_of, span_of};
+    ghost use Rattle.picture.specs.Frame.{Holds, IsOnSheet, IsWithin, corner_of, place_of, scaled_of, span_of};
 
     /// The box of one spot.
     pub fn at(spot: Spot) -> Frame
@@ -76,14 +86,20 @@ impl Frame {
         width.max(height).max(1)
     }
 
+    /// A distance as it is on the sheet.
+    fn scaled(self, distance: u32) -> u64
+        ensures { result ≡ scaled_of self distance }
+    {
+        u64::from(distance) * SIDE / u64::from(self.span())
+    }
+
     /// The lower right corner of the sheet: the box at its size on the sheet, and a margin on both sides.
     pub fn corner(self) -> Place
         ensures { result ≡ corner_of self }
     {
-        let span = self.span();
         Place {
-            x: 2 * MARGIN + scaled(self.right.abs_diff(self.left), span),
-            y: 2 * MARGIN + scaled(self.top.abs_diff(self.bottom), span),
+            x: 2 * MARGIN + self.scaled(self.right.abs_diff(self.left)),
+            y: 2 * MARGIN + self.scaled(self.top.abs_diff(self.bottom)),
         }
     }
 
@@ -91,15 +107,13 @@ impl Frame {
     /// put on its edge.
     pub fn place(self, spot: Spot) -> Place
         ensures exact { Holds self spot → result ≡ place_of self spot }
-        ensures right { (MARGIN ≤ result.x) × (result.x + MARGIN ≤ (corner_of self).x) }
-        ensures down { (MARGIN ≤ result.y) × (result.y + MARGIN ≤ (corner_of self).y) }
+        ensures inside { IsOnSheet self result }
     {
-        let span = self.span();
-        let x = spot.x.clamp(self.left, self.right);
-        let y = spot.y.clamp(self.bottom, self.top);
+        let x = from_low(self.left, self.right, spot.x);
+        let y = to_high(self.bottom, self.top, spot.y);
         Place {
-            x: MARGIN + scaled(x.abs_diff(self.left), span),
-            y: MARGIN + scaled(self.top.abs_diff(y), span),
+            x: MARGIN + self.scaled(x),
+            y: MARGIN + self.scaled(y),
         }
     }
 }
