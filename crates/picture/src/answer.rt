@@ -1,6 +1,8 @@
 // The answers of a job.
-ghost use Rattle.std.specs.Prelude.{◌≡◌, IfOk, IfSome};
-ghost use Rattle.picture.specs.Answer.{RowFields, WritesNumber};
+ghost use Rattle.std.specs.Prelude.{ℕ, ℤ, List, MatchOption};
+ghost use Rattle.space.specs.Lines.{Read, Writes};
+ghost use Rattle.picture.specs.declared.row.Row.{Row};
+ghost use Rattle.picture.specs.Answer.{NumberFirst, RowFields, SignedFirst, WritesNumber};
 
 use crate::row::Row;
 use space::Spot;
@@ -33,22 +35,47 @@ impl Error for ParseAnswerError {}
 
 /// The number that a text writes.
 fn number_of(text: &str) -> Option<u64>
-    ensures { IfSome result (WritesNumber text.now) }
+    ensures { Read WritesNumber text.now result }
 {
     text.parse::<u64>().ok()
 }
 
+/// The number before the first comma of a text, and what is after the comma.
+fn number_first(text: &str) -> Option<(u64, &str)>
+    ensures { MatchOption result ((n : ℕ) (rest : List ℕ) → NumberFirst text.now n rest → ⊥) (λ p. NumberFirst text.now p.0 p.1.now) }
+{
+    let (first, rest) = text.split_once(',')?;
+    let number = number_of(first)?;
+    Some((number, rest))
+}
+
+/// The same for a number that may have a minus before it.
+fn signed_first(text: &str) -> Option<(i32, &str)>
+    ensures { MatchOption result ((z : ℤ) (rest : List ℕ) → SignedFirst text.now z rest → ⊥) (λ p. SignedFirst text.now p.0 p.1.now) }
+{
+    let (first, rest) = text.split_once(',')?;
+    let number = signed_of(first)?;
+    Some((number, rest))
+}
+
+/// The number that a text writes, with a minus or without.
+fn signed_of(text: &str) -> Option<i32>
+    ensures { Read Writes text.now result }
+{
+    text.parse::<i32>().ok()
+}
+
 /// The row that stands after `N,`, with its number.
 fn row_of(text: &str) -> Option<(u64, Row)>
-    ensures { IfSome result (λ p. RowFields text.now p.0 p.1) }
+    ensures { MatchOption result ((n : ℕ) (r : Row) → RowFields text.now n r → ⊥) (λ p. RowFields text.now p.0 p.1) }
 {
-    let (number, rest) = text.split_once(',')?;
-    let (parent, rest) = rest.split_once(',')?;
-    let (spot, length) = rest.rsplit_once(',')?;
-    let number = number_of(number)?;
-    let parent = number_of(parent)?;
-    let spot = spot.parse::<Spot>().ok()?;
-    let length = number_of(length)?;
+    let (number, after_number) = number_first(text)?;
+    let (parent, after_parent) = number_first(after_number)?;
+    let (x, after_x) = signed_first(after_parent)?;
+    let (y, after_y) = signed_first(after_x)?;
+    let (level, after_level) = signed_first(after_y)?;
+    let length = number_of(after_level)?;
+    let spot = Spot { x, y, level };
     Some((
         number,
         Row {
