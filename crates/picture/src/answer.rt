@@ -1,8 +1,10 @@
 // The answers of a job.
-ghost use Rattle.std.specs.Prelude.{ℕ, ℤ, List, MatchOption};
+ghost use Rattle.std.specs.Prelude.{◌≡◌, ◌≢◌, ◌==◌, ◌++◌, ℕ, ℤ, List, Option, MatchOption};
+ghost use Rattle.std.specs.List.{after_first, before_first};
+ghost use Rattle.std.specs.Result.{result_ok};
 ghost use Rattle.space.specs.Lines.{Read, Writes};
 ghost use Rattle.picture.specs.declared.row.Row.{Row};
-ghost use Rattle.picture.specs.Answer.{NumberFirst, RowFields, SignedFirst, WritesNumber};
+ghost use Rattle.picture.specs.Answer.{AcceptedFields, NumberFirst, RowFields, Says, SignedFirst, WritesNumber};
 
 use crate::row::Row;
 use space::Spot;
@@ -86,29 +88,56 @@ fn row_of(text: &str) -> Option<(u64, Row)>
     ))
 }
 
-/// The line of the job and the first value that stand after `ok,`.
-fn accepted_of(text: &str) -> Option<(u64, Option<u64>)> {
-    let Some((line, values)) = text.split_once(',') else {
-        return Some((number_of(text)?, None));
-    };
-    let value = values.split(',').next().and_then(number_of);
-    Some((number_of(line)?, value))
+/// The text before the first comma, or all of it, and the text after the comma, or nothing.
+fn cut(text: &str) -> (&str, &str)
+    ensures first { result.0.now ≡ before_first (λ b. b == 44) text.now }
+    ensures rest { result.1.now ≡ after_first (λ b. b == 44) text.now }
+{
+    match text.split_once(',') {
+        Some((first, rest)) => (first, rest),
+        None => (text, ""),
+    }
 }
 
+/// The line of the job and the first value that stand after `ok,`.
+fn accepted_of(text: &str) -> Option<(u64, Option<u64>)>
+    ensures { MatchOption result ((n : ℕ) (v : Option ℕ) → AcceptedFields text.now n v → ⊥) (λ p. AcceptedFields text.now p.0 p.1) }
+{
+    let (line, values) = cut(text);
+    let line = number_of(line)?;
+    let (value, _) = cut(values);
+    Some((line, number_of(value)))
+}
+
+/// What stands in a text after a word at its front.
+fn after<'a>(text: &'a str, word: &str) -> Option<&'a str>
+    ensures { MatchOption result ((rest : List ℕ) → text.now ≢ word.now ++ rest) (λ x. text.now ≡ word.now ++ x.now) }
+{
+    text.strip_prefix(word)
+}
+
+// A line of answers; an error exactly where the text is none.
 impl FromStr for Answer {
     type Err = ParseAnswerError;
 
+    ghost from_str_gives = { λ text answer. Read Says text (result_ok answer) };
+
     fn from_str(text: &str) -> Result<Answer, ParseAnswerError> {
-        if let Some(rest) = text.strip_prefix("N,") {
-            let (number, row) = row_of(rest).ok_or(ParseAnswerError)?;
-            Ok(Answer::Row { number, row })
-        } else if let Some(rest) = text.strip_prefix("ok,") {
-            let (line, value) = accepted_of(rest).ok_or(ParseAnswerError)?;
-            Ok(Answer::Accepted { line, value })
-        } else if text.starts_with("no,") {
-            Ok(Answer::Refused)
-        } else {
-            Err(ParseAnswerError)
+        if let Some(rest) = after(text, "N,") {
+            let Some((number, row)) = row_of(rest) else {
+                return Err(ParseAnswerError);
+            };
+            return Ok(Answer::Row { number, row });
+        }
+        if let Some(rest) = after(text, "ok,") {
+            let Some((line, value)) = accepted_of(rest) else {
+                return Err(ParseAnswerError);
+            };
+            return Ok(Answer::Accepted { line, value });
+        }
+        match after(text, "no,") {
+            Some(_) => Ok(Answer::Refused),
+            None => Err(ParseAnswerError),
         }
     }
 }
