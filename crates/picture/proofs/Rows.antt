@@ -2,7 +2,7 @@
 use Rattle.std.proofs.Common.{◌≡◌, ℕ, suc, [], ℤ, Bool, true, false, cond, eqb, List, ◌∷◌, ◌++◌, get_or, drop, Some, None, sym, refl, ◌∙◌, subst, arith, Bor}
 use Rattle.std.specs.Bool.{⊤}
 use Rattle.std.specs.Str.Parse.{AllDigits, starts_with_minus as minus}
-use Rattle.std.proofs.lemmas.Str.Pattern.{IsSplitOnceResult, split_after, split_parts}
+use Rattle.std.proofs.lemmas.Str.Pattern.{IsSplitOnceResult, split_after}
 use Rattle.std.proofs.lemmas.Option.{MatchOption-at_none}
 use Rattle.std.proofs.lemmas.Bool.{eqb-true}
 use Rattle.space.specs.Lines.{Writes}

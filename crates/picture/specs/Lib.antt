@@ -5,3 +5,4 @@ pub mod Frame
 pub mod Job
 pub mod Net
 pub mod Reading
+pub mod Table

@@ -5,7 +5,7 @@ use Rattle.picture.specs.declared.job.Call.{Call}
 use Rattle.picture.specs.declared.job.Call.TheVariants as call
 use Rattle.picture.specs.declared.net.Net.{Net}
 use Rattle.picture.specs.declared.reading.Reading.{Reading}
-use Rattle.picture.specs.declared.reading.Table.{Table}
+use Rattle.picture.specs.declared.table.Table.{Table}
 use Rattle.picture.specs.Net.{net_after}
 
 -- All but the rows that wait for their answer is as it was.

@@ -11,12 +11,14 @@ mod reading;
 mod row;
 mod shapes;
 mod sheet;
+mod table;
 
 pub use answer::{Answer, ParseAnswerError};
 pub use counts::{Counts, Kind};
 pub use frame::{Frame, MARGIN, Place, SIDE};
 pub use job::{Call, Space, call_at, calls};
 pub use net::Net;
-pub use sheet::Picture;
-pub use reading::{Reading, Table};
+pub use reading::Reading;
 pub use row::Row;
+pub use sheet::Picture;
+pub use table::Table;

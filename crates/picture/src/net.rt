@@ -1,5 +1,5 @@
 // What the answers say of a net.
-ghost use Rattle.std.specs.Prelude.{◌≡◌, Option, ℕ};
+ghost use Rattle.std.specs.Prelude.{◌≡◌, None};
 ghost use Rattle.picture.specs.Net.{net_after};
 
 use crate::counts::Counts;
@@ -15,7 +15,10 @@ pub struct Net {
 
 impl Net {
     /// A net over plane without pins.
-    pub fn new() -> Net {
+    pub fn without_pins() -> Net
+        ensures counts { result.counts ≡ record { pins = 0; points = 0 } }
+        ensures worst { result.worst ≡ None }
+    {
         Net {
             space: Space::Plane,
             counts: Counts { pins: 0, points: 0 },

@@ -8,16 +8,10 @@ ghost use Rattle.picture.specs.Net.{current_after, net_after};
 use crate::job::Call;
 use crate::net::Net;
 use crate::row::Row;
+use crate::table::Table;
 use std::alloc::{AllocError, Global};
 use std::collections::BTreeMap;
 use std::mem;
-
-/// A complete table: the rows of a tree by their numbers, and the net whose tree it is.
-#[derive(Drop)]
-pub struct Table {
-    pub rows: BTreeMap<u64, Row>,
-    pub net: Net,
-}
 
 /// The answers read so far.
 #[derive(Drop)]
@@ -42,7 +36,7 @@ impl Reading {
     {
         Reading {
             rows: BTreeMap::new(alloc),
-            net: Net::new(),
+            net: Net::without_pins(),
             table: None,
             is_current: false,
         }

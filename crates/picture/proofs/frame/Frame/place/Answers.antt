@@ -1,6 +1,5 @@
-use Rattle.std.proofs.Common.{◌≡◌, rules, arith, refl, FitsSigned, w32}
+use Rattle.std.proofs.Common.{rules, arith, refl, FitsSigned, w32}
 use Rattle.std.proofs.lemmas.Int.{to_z-of_z}
-use Rattle.picture.specs.Distances.{apart}
 use Rattle.picture.proofs.Scaling.{scaled-le}
 use Rattle.picture.proofs.frame.Frame.place.Goals as goal
 
