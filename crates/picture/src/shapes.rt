@@ -14,6 +14,9 @@ const PALETTE: [&str; 16] = [
 /// The colour of a wire at any other level, and of marks.
 const INK: &str = "#222222";
 
+/// The colour of the sheet.
+pub const PAPER: &str = "#ffffff";
+
 /// A row of a table with its number, as a shape's title has it.
 #[derive(Clone, Copy)]
 pub struct Title {
@@ -92,17 +95,21 @@ impl fmt::Display for Mark {
         let title = self.title;
         let Place { x, y } = self.at;
         match self.kind {
-            Kind::Driver => writeln!(
-                f,
-                "<path d=\"M{x} {y}m-160 -160h320v320h-320z\" fill=\"{INK}\">{title}</path>"
-            ),
+            Kind::Driver => {
+                let left = x.saturating_sub(160);
+                let upper = y.saturating_sub(160);
+                writeln!(
+                    f,
+                    "<rect x=\"{left}\" y=\"{upper}\" width=\"320\" height=\"320\" fill=\"{INK}\">{title}</rect>"
+                )
+            }
             Kind::Pin => writeln!(
                 f,
                 "<circle cx=\"{x}\" cy=\"{y}\" r=\"130\" fill=\"{INK}\">{title}</circle>"
             ),
             Kind::Steiner => writeln!(
                 f,
-                "<circle cx=\"{x}\" cy=\"{y}\" r=\"110\" fill=\"#ffffff\" stroke=\"{INK}\" stroke-width=\"40\">{title}</circle>"
+                "<circle cx=\"{x}\" cy=\"{y}\" r=\"110\" fill=\"{PAPER}\" stroke=\"{INK}\" stroke-width=\"40\">{title}</circle>"
             ),
             Kind::Meet => writeln!(
                 f,
@@ -118,7 +125,7 @@ impl fmt::Display for Ring {
         let Place { x, y } = self.at;
         writeln!(
             f,
-            "<circle cx=\"{x}\" cy=\"{y}\" r=\"260\" stroke=\"#d62728\" stroke-width=\"50\">{title}</circle>"
+            "<circle cx=\"{x}\" cy=\"{y}\" r=\"260\" stroke=\"{INK}\" stroke-width=\"50\">{title}</circle>"
         )
     }
 }

@@ -7,7 +7,7 @@ ghost use Rattle.picture.specs.Frame.{IsOnSheet};
 use crate::counts::Kind;
 use crate::frame::{Frame, Place};
 use crate::row::Row;
-use crate::shapes::{Mark, Ring, Title, Wire};
+use crate::shapes::{Mark, PAPER, Ring, Title, Wire};
 use crate::table::Table;
 use std::fmt;
 
@@ -105,7 +105,12 @@ impl<'a> fmt::Display for Sheet<'a> {
         let Place { x, y } = self.frame.corner();
         writeln!(
             f,
-            "<svg xmlns=\"http://www.w3.org/2000/svg\" viewBox=\"0 0 {x} {y}\" style=\"background:#ffffff\" fill=\"none\" stroke-width=\"70\" stroke-linecap=\"round\" stroke-linejoin=\"round\">"
+            "<svg xmlns=\"http://www.w3.org/2000/svg\" viewBox=\"0 0 {x} {y}\""
+        )?;
+        writeln!(f, "style=\"background:{PAPER}\" fill=\"none\"")?;
+        writeln!(
+            f,
+            "stroke-width=\"70\" stroke-linecap=\"round\" stroke-linejoin=\"round\">"
         )?;
         self.write_wires(f)?;
         self.write_marks(f)?;
@@ -127,5 +132,51 @@ impl<'a> fmt::Display for Picture<'a> {
                 "<svg xmlns=\"http://www.w3.org/2000/svg\" viewBox=\"0 0 1 1\"></svg>"
             ),
         }
+    }
+}
+
+#[cfg(test)]
+mod tests {
+    use super::*;
+    use crate::answer::Answer;
+    use crate::job::{Call, Space};
+    use crate::reading::Reading;
+    use std::test::Fail;
+
+    /// Reads a line of answers; an accepted call is `call`.
+    fn read(reading: &mut Reading, call: Call, line: &str) -> Result<(), Fail> {
+        match line.parse::<Answer>()? {
+            Answer::Row { number, row } => reading.row(number, row)?,
+            Answer::Refused => reading.refused(),
+            Answer::Accepted { value, .. } => reading.accepted(call, value)?,
+        }
+        Ok(())
+    }
+
+    #[test]
+    fn draws_the_rows_that_have_a_parent(rt: HostRuntime) -> Result<(), Fail> {
+        let mut reading = Reading::new(rt.alloc());
+        read(&mut reading, Call::Net(Space::Air), "ok,1,0")?;
+        read(&mut reading, Call::Other, "N,0,0,-5,0,0,0")?;
+        read(&mut reading, Call::Other, "N,1,0,5,4,1,11")?;
+        read(&mut reading, Call::Other, "N,2,7,0,2,0,3")?;
+        read(&mut reading, Call::Table, "ok,2,3")?;
+        read(&mut reading, Call::Other, "N,0,0,9,9,0,0")?;
+        let picture = Picture(reading.table.as_ref());
+        let text = format!(in rt.alloc(); "{picture}")?;
+        assert!(rt; text.contains("viewBox=\"0 0 11200 5200\""));
+        assert!(rt; text.contains("d=\"M600 4600L10600 600\""));
+        assert!(rt; !text.contains("row 2"));
+        assert!(rt; !text.contains("9,9,0"));
+        Ok(())
+    }
+
+    #[test]
+    fn draws_nothing_without_a_table(rt: HostRuntime) -> Result<(), Fail> {
+        let picture = Picture(None);
+        let text = format!(in rt.alloc(); "{picture}")?;
+        assert!(rt; text.contains("</svg>"));
+        assert!(rt; !text.contains("circle"));
+        Ok(())
     }
 }
