@@ -1,0 +1,4 @@
+pub mod Boxes
+pub mod Rows
+pub mod Scaling
+pub mod Words

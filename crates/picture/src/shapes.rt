@@ -1,0 +1,131 @@
+// The shapes of a picture.
+use crate::counts::Kind;
+use crate::frame::Place;
+use crate::job::Space;
+use crate::row::Row;
+use std::fmt;
+
+/// Colours of wires by level, for levels 0 to 15.
+const PALETTE: [&str; 16] = [
+    "#1f77b4", "#d62728", "#2ca02c", "#9467bd", "#ff7f0e", "#8c564b", "#e377c2", "#17becf",
+    "#bcbd22", "#7f7f7f", "#393b79", "#843c39", "#637939", "#7b4173", "#8c6d31", "#3182bd",
+];
+
+/// The colour of a wire at any other level, and of marks.
+const INK: &str = "#222222";
+
+/// The colour of the sheet.
+pub const PAPER: &str = "#ffffff";
+
+/// A row of a table with its number, as a shape's title has it.
+#[derive(Clone, Copy)]
+pub struct Title {
+    pub number: u64,
+    pub row: Row,
+}
+
+/// A wire from a parent's place to a row's.
+#[derive(Clone, Copy)]
+pub struct Wire {
+    pub title: Title,
+    pub space: Space,
+    pub from: Place,
+    pub to: Place,
+}
+
+/// The mark of a row at its place.
+#[derive(Clone, Copy)]
+pub struct Mark {
+    pub title: Title,
+    pub kind: Kind,
+    pub at: Place,
+}
+
+/// The ring round the worst sink.
+#[derive(Clone, Copy)]
+pub struct Ring {
+    pub title: Title,
+    pub at: Place,
+}
+
+/// The colour of a level.
+fn colour(level: i32) -> &'static str {
+    match usize::try_from(level) {
+        Ok(k) => PALETTE.get(k).copied().unwrap_or(INK),
+        Err(_) => INK,
+    }
+}
+
+impl fmt::Display for Title {
+    fn fmt<W: fmt::Write>(&self, f: &mut fmt::Formatter<W>) -> fmt::Result {
+        let number = self.number;
+        let Row {
+            parent,
+            spot,
+            length,
+        } = self.row;
+        write!(
+            f,
+            "<title>row {number}, parent {parent}: {spot}, length {length}</title>"
+        )
+    }
+}
+
+impl fmt::Display for Wire {
+    fn fmt<W: fmt::Write>(&self, f: &mut fmt::Formatter<W>) -> fmt::Result {
+        let title = self.title;
+        let stroke = colour(title.row.spot.level);
+        let Place { x, y } = self.from;
+        let Place { x: to_x, y: to_y } = self.to;
+        match self.space {
+            Space::Plane => writeln!(
+                f,
+                "<path d=\"M{x} {y}H{to_x}V{to_y}\" stroke=\"{stroke}\">{title}</path>"
+            ),
+            Space::Air => writeln!(
+                f,
+                "<path d=\"M{x} {y}L{to_x} {to_y}\" stroke=\"{stroke}\">{title}</path>"
+            ),
+        }
+    }
+}
+
+impl fmt::Display for Mark {
+    fn fmt<W: fmt::Write>(&self, f: &mut fmt::Formatter<W>) -> fmt::Result {
+        let title = self.title;
+        let Place { x, y } = self.at;
+        match self.kind {
+            Kind::Driver => {
+                let left = x.saturating_sub(160);
+                let upper = y.saturating_sub(160);
+                writeln!(
+                    f,
+                    "<rect x=\"{left}\" y=\"{upper}\" width=\"320\" height=\"320\" fill=\"{INK}\">{title}</rect>"
+                )
+            }
+            Kind::Pin => writeln!(
+                f,
+                "<circle cx=\"{x}\" cy=\"{y}\" r=\"130\" fill=\"{INK}\">{title}</circle>"
+            ),
+            Kind::Steiner => writeln!(
+                f,
+                "<circle cx=\"{x}\" cy=\"{y}\" r=\"110\" fill=\"{PAPER}\" stroke=\"{INK}\" stroke-width=\"40\">{title}</circle>"
+            ),
+            Kind::Meet => writeln!(
+                f,
+                "<circle cx=\"{x}\" cy=\"{y}\" r=\"60\" fill=\"{INK}\">{title}</circle>"
+            ),
+        }
+    }
+}
+
+impl fmt::Display for Ring {
+    fn fmt<W: fmt::Write>(&self, f: &mut fmt::Formatter<W>) -> fmt::Result {
+        let title = self.title;
+        let Place { x, y } = self.at;
+        writeln!(
+            f,
+            "<circle cx=\"{x}\" cy=\"{y}\" r=\"260\" stroke=\"{INK}\" stroke-width=\"50\">{title}</circle>"
+        )
+    }
+}

@@ -1,0 +1,182 @@
+// A table as a picture.
+ghost use Rattle.std.specs.Prelude.{◌↔◌, IsSome, IfSome};
+ghost use Rattle.std.specs.Ordering.{nat_cmp};
+ghost use Rattle.std.specs.BTreeMap.{get};
+ghost use Rattle.picture.specs.Frame.{IsOnSheet};
+
+use crate::counts::Kind;
+use crate::frame::{Frame, Place};
+use crate::row::Row;
+use crate::shapes::{Mark, PAPER, Ring, Title, Wire};
+use crate::table::Table;
+use std::fmt;
+
+/// A picture in SVG: the wires and the rows of a table; a picture of nothing where there is no table or no row.
+#[derive(Clone, Copy)]
+pub struct Picture<'a>(pub Option<&'a Table>);
+
+/// A table on a sheet.
+#[derive(Clone, Copy)]
+struct Sheet<'a> {
+    table: &'a Table,
+    frame: Frame,
+}
+
+/// The place of a row's parent and of the row.
+#[derive(Clone, Copy)]
+struct Ends {
+    from: Place,
+    to: Place,
+}
+
+impl<'a> Sheet<'a> {
+    /// Where a row's wire begins and ends; nothing where the table has no row for its parent.
+    fn ends(&self, row: Row) -> Option<Ends>
+        ensures parent { IsSome result ↔ IsSome (get nat_cmp self.now.table.now.rows row.parent) }
+        ensures inside { IfSome result (λ e. IsOnSheet self.now.frame e.from × IsOnSheet self.now.frame e.to) }
+    {
+        let parent = self.table.parent(row)?;
+        Some(Ends {
+            from: self.frame.place(parent),
+            to: self.frame.place(row.spot),
+        })
+    }
+
+    /// Writes the wire of a row; none where it is the driver or is left out.
+    fn write_wire<W: fmt::Write>(&self, f: &mut fmt::Formatter<W>, title: Title) -> fmt::Result {
+        let net = self.table.net;
+        match self.ends(title.row) {
+            Some(Ends { from, to }) if net.counts.kind(title.number) != Kind::Driver => {
+                let space = net.space;
+                let wire = Wire {
+                    title,
+                    space,
+                    from,
+                    to,
+                };
+                write!(f, "{wire}")
+            }
+            _ => Ok(()),
+        }
+    }
+
+    /// Writes the mark of a row, and the ring where it is the worst sink; none where it is left out.
+    fn write_mark<W: fmt::Write>(&self, f: &mut fmt::Formatter<W>, title: Title) -> fmt::Result {
+        let Some(Ends { to: at, .. }) = self.ends(title.row) else {
+            return Ok(());
+        };
+        let kind = self.table.net.counts.kind(title.number);
+        let mark = Mark { title, kind, at };
+        write!(f, "{mark}")?;
+        if self.table.is_worst(title.number) {
+            let ring = Ring { title, at };
+            write!(f, "{ring}")?;
+        }
+        Ok(())
+    }
+
+    /// Writes the wires of all rows.
+    fn write_wires<W: fmt::Write>(&self, f: &mut fmt::Formatter<W>) -> fmt::Result {
+        for (number, row) in &self.table.rows {
+            let title = Title {
+                number: *number,
+                row: *row,
+            };
+            self.write_wire(f, title)?;
+        }
+        Ok(())
+    }
+
+    /// Writes the marks of all rows, which lie over the wires.
+    fn write_marks<W: fmt::Write>(&self, f: &mut fmt::Formatter<W>) -> fmt::Result {
+        for (number, row) in &self.table.rows {
+            let title = Title {
+                number: *number,
+                row: *row,
+            };
+            self.write_mark(f, title)?;
+        }
+        Ok(())
+    }
+}
+
+impl<'a> fmt::Display for Sheet<'a> {
+    fn fmt<W: fmt::Write>(&self, f: &mut fmt::Formatter<W>) -> fmt::Result {
+        let Place { x, y } = self.frame.corner();
+        writeln!(
+            f,
+            "<svg xmlns=\"http://www.w3.org/2000/svg\" viewBox=\"0 0 {x} {y}\""
+        )?;
+        writeln!(f, "style=\"background:{PAPER}\" fill=\"none\"")?;
+        writeln!(
+            f,
+            "stroke-width=\"70\" stroke-linecap=\"round\" stroke-linejoin=\"round\">"
+        )?;
+        self.write_wires(f)?;
+        self.write_marks(f)?;
+        writeln!(f, "</svg>")
+    }
+}
+
+impl<'a> fmt::Display for Picture<'a> {
+    fn fmt<W: fmt::Write>(&self, f: &mut fmt::Formatter<W>) -> fmt::Result {
+        let Picture(table) = *self;
+        let frame = table.and_then(|table| table.frame());
+        match (table, frame) {
+            (Some(table), Some(frame)) => {
+                let sheet = Sheet { table, frame };
+                write!(f, "{sheet}")
+            }
+            _ => writeln!(
+                f,
+                "<svg xmlns=\"http://www.w3.org/2000/svg\" viewBox=\"0 0 1 1\"></svg>"
+            ),
+        }
+    }
+}
+
+#[cfg(test)]
+mod tests {
+    use super::*;
+    use crate::answer::Answer;
+    use crate::job::{Call, Space};
+    use crate::reading::Reading;
+    use std::test::Fail;
+
+    /// Reads a line of answers; an accepted call is `call`.
+    fn read(reading: &mut Reading, call: Call, line: &str) -> Result<(), Fail> {
+        match line.parse::<Answer>()? {
+            Answer::Row { number, row } => reading.row(number, row)?,
+            Answer::Refused => reading.refused(),
+            Answer::Accepted { value, .. } => reading.accepted(call, value)?,
+        }
+        Ok(())
+    }
+
+    #[test]
+    fn draws_the_rows_that_have_a_parent(rt: HostRuntime) -> Result<(), Fail> {
+        let mut reading = Reading::new(rt.alloc());
+        read(&mut reading, Call::Net(Space::Air), "ok,1,0")?;
+        read(&mut reading, Call::Other, "N,0,0,-5,0,0,0")?;
+        read(&mut reading, Call::Other, "N,1,0,5,4,1,11")?;
+        read(&mut reading, Call::Other, "N,2,7,0,2,0,3")?;
+        read(&mut reading, Call::Table, "ok,2,3")?;
+        read(&mut reading, Call::Other, "N,0,0,9,9,0,0")?;
+        let picture = Picture(reading.table.as_ref());
+        let text = format!(in rt.alloc(); "{picture}")?;
+        assert!(rt; text.contains("viewBox=\"0 0 11200 5200\""));
+        assert!(rt; text.contains("d=\"M600 4600L10600 600\""));
+        assert!(rt; !text.contains("row 2"));
+        assert!(rt; !text.contains("9,9,0"));
+        Ok(())
+    }
+
+    #[test]
+    fn draws_nothing_without_a_table(rt: HostRuntime) -> Result<(), Fail> {
+        let picture = Picture(None);
+        let text = format!(in rt.alloc(); "{picture}")?;
+        assert!(rt; text.contains("</svg>"));
+        assert!(rt; !text.contains("circle"));
+        Ok(())
+    }
+}

@@ -1,0 +1,58 @@
+// A complete table of rows.
+ghost use Rattle.std.specs.Prelude.{◌≡◌, ◌↔◌, [], Some, All, IsTrue, MatchOption};
+ghost use Rattle.std.specs.Ordering.{nat_cmp};
+ghost use Rattle.std.specs.BTreeMap.{get, values};
+ghost use Rattle.std.specs.Option.{option_map};
+ghost use Rattle.picture.specs.Frame.{Holds, IsWithin};
+ghost use Rattle.picture.specs.Table.{IsAround};
+
+use crate::frame::Frame;
+use crate::net::Net;
+use crate::row::Row;
+use space::Spot;
+use std::collections::BTreeMap;
+
+/// A complete table: the rows of a tree by their numbers, and the net whose tree it is.
+#[derive(Drop)]
+pub struct Table {
+    pub rows: BTreeMap<u64, Row>,
+    pub net: Net,
+}
+
+impl Table {
+    /// A box that holds the spots of all rows; nothing where there are no rows.
+    pub fn frame(&self) -> Option<Frame>
+        ensures { MatchOption result (values self.now.rows ≡ []) (λ f. All (λ r. Holds f r.spot) (values self.now.rows)) }
+    {
+        let mut frame = None;
+        for row in self.rows.values() {
+            frame = Some(around(frame, row.spot));
+        }
+        frame
+    }
+
+    /// The spot of a row's parent; nothing where the table has no such row.
+    pub fn parent(&self, row: Row) -> Option<Spot>
+        ensures { result ≡ option_map (λ r. r.spot) (get nat_cmp self.now.rows row.parent) }
+    {
+        self.rows.get(&row.parent).map(|parent| parent.spot)
+    }
+
+    /// Whether a number is that of the worst sink.
+    pub fn is_worst(&self, number: u64) -> bool
+        ensures { IsTrue result ↔ (self.now.net.worst ≡ Some number) }
+    {
+        self.net.worst == Some(number)
+    }
+}
+
+/// The box that holds a spot beside all that a box holds already.
+fn around(frame: Option<Frame>, spot: Spot) -> Frame
+    ensures holds { Holds result spot }
+    ensures keeps { IsAround frame result }
+{
+    match frame {
+        Some(frame) => frame.with(spot),
+        None => Frame::at(spot),
+    }
+}
