@@ -2,14 +2,14 @@
 use Rattle.std.proofs.Common.{◌≡◌, ℕ, ◌+◌, ◌<◌, ◌≤◌, Bool, true, false, List, [], ◌∷◌, ◌++◌, length, map, drop, take, refl, sym, ap, ◌∙◌, subst, append_assoc, arith, Some, None}
 use Rattle.std.proofs.lemmas.List.{append-nil, drop-drop, drop_at, length-append, length-drop, length_push, map-append, map_push, take_at}
 use Rattle.request.specs.Lines.{lines_of}
-use Rattle.reply.specs.Places.{put_at}
+use Rattle.job.specs.Places.{put_at}
 use Rattle.reply.specs.Texts.{answer_text}
 use Rattle.job.specs.Answering.{Gives, LineGives, Told, Under, log_of, net_of, stage_after, text_from}
 use Rattle.job.specs.Jobs.{AnswersLine, Ran, Stops}
 use Rattle.job.specs.Stages.{Laws, Stage}
 use Rattle.job.specs.declared.running.Outcome.{Outcome}
 use Rattle.job.proofs.Lines.{after_both, after_more, gives_both, gives_more, text_both, text_more, under}
-use Rattle.job.proofs.Places.{length_put, put_put}
+use Rattle.job.proofs.Putting.{length_put, put_put}
 
 pub record Going (i : ℕ) (n m : Stage) (job rest before now : List ℕ) (count size : ℕ) : Type 0 where
   pub told : List Told

@@ -2,7 +2,7 @@
 use Rattle.std.proofs.Common.{◌≡◌, ℕ, ◌+◌, true, List, [], ◌++◌, length, drop, take, refl, arith, Result, Some, None, ◌∙◌, ap, ◌≤◌}
 use Rattle.std.proofs.lemmas.List.{append-nil, drop_all, length-drop}
 use Rattle.request.specs.declared.fault.TextFault.{TextFault}
-use Rattle.reply.specs.Places.{Puts}
+use Rattle.job.specs.Places.{Puts}
 use Rattle.reply.specs.Texts.{answer_text}
 use Rattle.reply.specs.declared.reply.Reply.{Reply}
 use Rattle.job.specs.Answering.{net_of}

@@ -5,7 +5,7 @@ use Rattle.request.specs.Lines.{lines_of}
 use Rattle.request.specs.Requests.{Reads}
 use Rattle.request.specs.declared.requests.Request.{Request}
 use Rattle.request.specs.declared.fault.TextFault.{TextFault}
-use Rattle.reply.specs.Places.{Puts}
+use Rattle.job.specs.Places.{Puts}
 use Rattle.reply.specs.Texts.{answer_text, rows_in}
 use Rattle.reply.specs.declared.reply.Reply.{Reply}
 use Rattle.reply.specs.declared.reply.Reply.TheVariants.{Number, Path, Worst, Rows}

@@ -6,9 +6,10 @@ ghost use Rattle.job.specs.Stages.Stage.{over as overNet, without as withoutNet}
 ghost use Rattle.job.specs.Stages.{Laws, NetFollows, Stage};
 
 use crate::kind::JobCall;
+use crate::places::put;
 use crate::tabling::put_answer;
 use net::Net;
-use reply::{Reply, last_line, put};
+use reply::{Reply, last_line};
 use request::{Request, TextFault, read};
 use space::Space;
 use std::marker::PhantomData;

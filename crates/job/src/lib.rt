@@ -4,6 +4,7 @@
 
 mod answering;
 mod kind;
+mod places;
 mod running;
 mod starting;
 mod tabling;

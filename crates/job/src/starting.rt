@@ -10,10 +10,11 @@ ghost use Rattle.job.specs.Stages.{Follows, joins_of, world_of};
 
 use crate::answering::{Answerer, NoNet, OverNet};
 use crate::kind::JobCall;
+use crate::places::put;
 use crate::running::{Outcome, run_lines};
 use net::Net;
 use net_laws::{Call, JoinCall};
-use reply::{Reply, last_line, put};
+use reply::{Reply, last_line};
 use request::{Request, TextFault, Word, next_line, read};
 use space::{Air, Lift, Plane, Space};
 use std::alloc::{AllocError, Global};

@@ -1,18 +1,19 @@
 ghost use Rattle.std.specs.Prelude.{◌≡◌, ◌≤◌, ◌<◌, ◌+◌, ◌++◌, length};
 ghost use Rattle.net.specs.Nets.{seen};
-ghost use Rattle.reply.specs.Places.{Puts, put_at};
+ghost use Rattle.job.specs.Places.{Puts, put_at};
 ghost use Rattle.reply.specs.Texts.{answer_text, row_text, rows_in, rows_text};
 ghost use Rattle.tree_laws.specs.Trees.{row_of};
 ghost use Rattle.job.specs.Jobs.{Counted, Sized};
 
+use crate::places::{place, put};
 use arrayvec::ArrayString;
 use net::Net;
-use reply::{Reply, last_line, place, put, row_line};
+use reply::{LINE, Reply, last_line, row_line};
 use request::TextFault;
 use space::Space;
 
 /// The line of the row `k`.
-fn line_at<S: Space>(net: &Net<S>, k: usize) -> ArrayString<128>
+fn line_at<S: Space>(net: &Net<S>, k: usize) -> ArrayString<LINE>
     requires { k < length (rows_in (seen net.now.board).tree) }
     ensures { result.bytes ≡ row_text k (row_of (rows_in (seen net.now.board).tree) k) }
 {

@@ -16,8 +16,8 @@ use tree_laws::Row;
 pub const LINE: usize = 128;
 
 /// Adds a comma and a number to a line.
-fn push_number(line: &mut ArrayString<128>, n: u64)
-    requires { array_string_len line.old + 21 ≤ 128 }
+fn push_number(line: &mut ArrayString<LINE>, n: u64)
+    requires { array_string_len line.old + 21 ≤ LINE }
     ensures bytes { line.new.bytes ≡ line.old.bytes ++ comma (decimal n) }
     ensures len { array_string_len line.new ≤ array_string_len line.old + 21 }
 {
@@ -27,8 +27,8 @@ fn push_number(line: &mut ArrayString<128>, n: u64)
 }
 
 /// Adds a comma and a signed number to a line.
-fn push_signed(line: &mut ArrayString<128>, n: i32)
-    requires { array_string_len line.old + 12 ≤ 128 }
+fn push_signed(line: &mut ArrayString<LINE>, n: i32)
+    requires { array_string_len line.old + 12 ≤ LINE }
     ensures bytes { line.new.bytes ≡ line.old.bytes ++ comma (signed_decimal n) }
     ensures len { array_string_len line.new ≤ array_string_len line.old + 12 }
 {
@@ -38,7 +38,7 @@ fn push_signed(line: &mut ArrayString<128>, n: i32)
 }
 
 /// The last line of the answer of the line `i`.
-pub fn last_line(i: u64, answer: Result<Reply, TextFault>) -> ArrayString<128>
+pub fn last_line(i: u64, answer: Result<Reply, TextFault>) -> ArrayString<LINE>
     ensures { result.bytes ≡ last_text i answer }
 {
     match answer {
@@ -65,10 +65,10 @@ fn letter(fault: Fault) -> &'static str
 }
 
 /// The line of an accepted line.
-fn ok_line(i: u64, reply: Reply) -> ArrayString<128>
+fn ok_line(i: u64, reply: Reply) -> ArrayString<LINE>
     ensures { result.bytes ≡ ok_text i (values_of reply) }
 {
-    let mut line = ArrayString::<128>::new();
+    let mut line = ArrayString::<LINE>::new();
     line.push_str("ok");
     push_number(&mut line, i);
     match reply {
@@ -88,11 +88,11 @@ fn ok_line(i: u64, reply: Reply) -> ArrayString<128>
 }
 
 /// The line of a refusal.
-fn no_line(i: u64, layer: &str, number: u8, field: u8) -> ArrayString<128>
+fn no_line(i: u64, layer: &str, number: u8, field: u8) -> ArrayString<LINE>
     requires { length layer.now ≤ 1 }
     ensures { result.bytes ≡ no_text i (record { layer = layer.now; number = number; field = field }) }
 {
-    let mut line = ArrayString::<128>::new();
+    let mut line = ArrayString::<LINE>::new();
     line.push_str("no");
     push_number(&mut line, i);
     line.push_str(",");
@@ -104,10 +104,10 @@ fn no_line(i: u64, layer: &str, number: u8, field: u8) -> ArrayString<128>
 }
 
 /// The line of a row.
-pub fn row_line(k: u64, row: Row) -> ArrayString<128>
+pub fn row_line(k: u64, row: Row) -> ArrayString<LINE>
     ensures { result.bytes ≡ row_text k row }
 {
-    let mut line = ArrayString::<128>::new();
+    let mut line = ArrayString::<LINE>::new();
     line.push_str("N");
     push_number(&mut line, k);
     push_number(&mut line, row.parent as u64);

@@ -1,6 +1,6 @@
 use Rattle.std.proofs.Common.{◌≡◌, ℕ, ◌++◌, ◌-◌, List, length, Some, None, subst, sym, ap, ◌∙◌, arith, rules}
 use Rattle.std.proofs.lemmas.Slice.{between_to_end}
-use Rattle.reply.specs.Places.{Puts}
+use Rattle.job.specs.Places.{Puts}
 use Rattle.reply.specs.Texts.{answer_text, last_text}
 use Rattle.job.specs.Answering.{net_of}
 use Rattle.job.specs.Jobs.{Ran}

@@ -1,10 +1,10 @@
 use Rattle.std.proofs.Common.{◌≡◌, ◌+◌, ◌++◌, ◌<◌, length, take, ap, ◌∙◌, sym, arith, rules}
 use Rattle.std.proofs.lemmas.List.{length-append}
 use Rattle.net.specs.Nets.{seen}
-use Rattle.reply.specs.Places.{put_at}
+use Rattle.job.specs.Places.{put_at}
 use Rattle.reply.specs.Texts.{row_text, rows_in, rows_text}
 use Rattle.tree_laws.specs.Trees.{row_of}
-use Rattle.job.proofs.Places.{put_put}
+use Rattle.job.proofs.Putting.{put_put}
 use Rattle.job.proofs.Tables.{part, row_more}
 use Rattle.job.proofs.tabling.put_rows.Goals as goal
 

@@ -1,6 +1,6 @@
 use Rattle.std.proofs.Common.{◌≡◌, ◌+◌, length, take}
 use Rattle.net.specs.Nets.{seen}
-use Rattle.reply.specs.Places.{put_at}
+use Rattle.job.specs.Places.{put_at}
 use Rattle.reply.specs.Texts.{rows_in, rows_text}
 use Rattle.job.proofs.tabling.put_rows.Given as goal
 

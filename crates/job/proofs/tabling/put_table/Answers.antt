@@ -1,8 +1,8 @@
 use Rattle.std.proofs.Common.{◌+◌, ◌≤◌, length, subst, arith, List, ℕ}
 use Rattle.net.specs.Nets.{seen}
-use Rattle.reply.specs.Places.{Puts, put_at}
+use Rattle.job.specs.Places.{Puts, put_at}
 use Rattle.reply.specs.Texts.{rows_in, rows_text}
-use Rattle.job.proofs.Places.{put_both}
+use Rattle.job.proofs.Putting.{put_both}
 use Rattle.job.proofs.tabling.put_table.Goals as goal
 
 pub returns : goal.returns

@@ -1,7 +1,7 @@
 -- A text put behind another.
 use Rattle.std.proofs.Common.{◌≡◌, ℕ, ◌+◌, ◌≤◌, List, ◌++◌, length, take, drop, sym, ap, ◌∙◌, append_assoc, arith, Option, Some, None}
 use Rattle.std.proofs.lemmas.List.{drop-drop, drop_at, length-append, length-drop, length-take-le, take_at}
-use Rattle.reply.specs.Places.{Puts, put_at}
+use Rattle.job.specs.Places.{Puts, put_at}
 
 pub put_put : (o : List ℕ) (a : ℕ) (t u : List ℕ) → a ≤ length o → put_at (put_at o a t) (a + length t) u ≡ put_at o a (t ++ u)
 put_put o a t u h =
