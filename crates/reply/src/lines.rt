@@ -7,7 +7,7 @@ ghost use Rattle.net_laws.specs.Faults.{layer_of};
 
 use crate::reply::Reply;
 use arrayvec::ArrayString;
-use itoa::Buffer;
+use itoa::{Buffer, Integer};
 use net_laws::{Fault, Layer};
 use request::TextFault;
 use tree_laws::Row;
@@ -16,21 +16,10 @@ use tree_laws::Row;
 pub const LINE: usize = 128;
 
 /// Adds a comma and a number to a line.
-fn push_number(line: &mut ArrayString<LINE>, n: u64)
-    requires { array_string_len line.old + 21 ≤ LINE }
-    ensures bytes { line.new.bytes ≡ line.old.bytes ++ comma (decimal n) }
-    ensures len { array_string_len line.new ≤ array_string_len line.old + 21 }
-{
-    line.push_str(",");
-    let mut buffer = Buffer::new();
-    line.push_str(buffer.format(n));
-}
-
-/// Adds a comma and a signed number to a line.
-fn push_signed(line: &mut ArrayString<LINE>, n: i32)
-    requires { array_string_len line.old + 12 ≤ LINE }
-    ensures bytes { line.new.bytes ≡ line.old.bytes ++ comma (signed_decimal n) }
-    ensures len { array_string_len line.new ≤ array_string_len line.old + 12 }
+fn push<I: Integer>(line: &mut ArrayString<LINE>, n: I)
+    requires { array_string_len line.old + 1 + I.MAX_STR_LEN ≤ LINE }
+    ensures bytes { line.new.bytes ≡ line.old.bytes ++ comma (I.text n) }
+    ensures len { array_string_len line.new ≤ array_string_len line.old + 1 + I.MAX_STR_LEN }
 {
     line.push_str(",");
     let mut buffer = Buffer::new();
@@ -70,18 +59,18 @@ fn ok_line(i: u64, reply: Reply) -> ArrayString<LINE>
 {
     let mut line = ArrayString::<LINE>::new();
     line.push_str("ok");
-    push_number(&mut line, i);
+    push(&mut line, i);
     match reply {
-        Reply::Number(v) => push_number(&mut line, v),
+        Reply::Number(v) => push(&mut line, v),
         Reply::Path(reach) => {
-            push_number(&mut line, reach.path);
-            push_number(&mut line, reach.direct);
+            push(&mut line, reach.path);
+            push(&mut line, reach.direct);
         }
         Reply::Worst(worst) => {
-            push_number(&mut line, worst.pin as u64);
-            push_number(&mut line, worst.figure);
+            push(&mut line, worst.pin as u64);
+            push(&mut line, worst.figure);
         }
-        Reply::Rows(count) => push_number(&mut line, count as u64),
+        Reply::Rows(count) => push(&mut line, count as u64),
     }
     line.push_str("\n");
     line
@@ -94,11 +83,11 @@ fn no_line(i: u64, layer: &str, number: u8, field: u8) -> ArrayString<LINE>
 {
     let mut line = ArrayString::<LINE>::new();
     line.push_str("no");
-    push_number(&mut line, i);
+    push(&mut line, i);
     line.push_str(",");
     line.push_str(layer);
-    push_number(&mut line, u64::from(number));
-    push_number(&mut line, u64::from(field));
+    push(&mut line, u64::from(number));
+    push(&mut line, u64::from(field));
     line.push_str("\n");
     line
 }
@@ -109,12 +98,12 @@ pub fn row_line(k: u64, row: Row) -> ArrayString<LINE>
 {
     let mut line = ArrayString::<LINE>::new();
     line.push_str("N");
-    push_number(&mut line, k);
-    push_number(&mut line, row.parent as u64);
-    push_signed(&mut line, row.spot.x);
-    push_signed(&mut line, row.spot.y);
-    push_signed(&mut line, row.spot.level);
-    push_number(&mut line, row.length);
+    push(&mut line, k);
+    push(&mut line, row.parent as u64);
+    push(&mut line, row.spot.x);
+    push(&mut line, row.spot.y);
+    push(&mut line, row.spot.level);
+    push(&mut line, row.length);
     line.push_str("\n");
     line
 }

@@ -4,18 +4,16 @@ use Rattle.std.proofs.Common.{map, set, ◌++◌, append_assoc, Bor}
 use Rattle.std.proofs.lemmas.List.{take_more_set, map_push, take_at, take_all, append-nil}
 use Rattle.std.proofs.lemmas.Bool.{ne_eqb, eq-eqb}
 use Rattle.std.specs.List.{slice_split}
+use Rattle.request.specs.Lines.{Lacks}
 
-abbrev pub Plain : List ℕ → ℕ → Type 0
-Plain xs n = (k : ℕ) → k < n → get_or xs k 0 ≡ 44 → ⊥
-
-pub no_comma : (xs : List ℕ) → Plain xs (length xs) → slice_split (λ b. eqb b 44) xs ≡ xs ∷ []
+pub no_comma : (xs : List ℕ) → Lacks 44 xs (length xs) → slice_split (λ b. eqb b 44) xs ≡ xs ∷ []
 no_comma [] h = refl
 no_comma (x ∷ xs) h =
     let no : eqb x 44 ≡ false = ne_eqb x 44 (h 0 (omega arith)) in
     let rest = no_comma xs (λ k l. h (suc k) (omega arith)) in
     rw (no, rest) refl
 
-pub at_comma : (xs : List ℕ) (i : ℕ) → i < length xs → get_or xs i 0 ≡ 44 → Plain xs i → slice_split (λ b. eqb b 44) xs ≡ take i xs ∷ slice_split (λ b. eqb b 44) (drop (suc i) xs)
+pub at_comma : (xs : List ℕ) (i : ℕ) → i < length xs → get_or xs i 0 ≡ 44 → Lacks 44 xs i → slice_split (λ b. eqb b 44) xs ≡ take i xs ∷ slice_split (λ b. eqb b 44) (drop (suc i) xs)
 at_comma [] i l e h = absurd (omega arith)
 at_comma (x ∷ xs) zero l e h = let yes : eqb x 44 ≡ true = eq-eqb x 44 e in rw yes refl
 at_comma (x ∷ xs) (suc i) l e h =

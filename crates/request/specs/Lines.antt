@@ -1,5 +1,5 @@
 -- The lines of a job, and the fields of a line. Assumes nothing.
-use Rattle.std.specs.Prelude.{ℕ, List, [], ◌∷◌, cond, ◌==◌, Option, Some, None}
+use Rattle.std.specs.Prelude.{◌≡◌, ℕ, ◌<◌, slice_index, List, [], ◌∷◌, cond, ◌==◌, Option, Some, None}
 use Rattle.std.specs.List.{slice_split}
 use denote.Ref.{Bor}
 
@@ -21,3 +21,7 @@ fields_of line = slice_split (λ b. b == 44) line
 abbrev pub fields_behind : Option (Bor (List ℕ)) → List (List ℕ)
 fields_behind None = []
 fields_behind (Some rest) = fields_of rest.now
+
+-- The byte does not stand in the first n places.
+abbrev pub Lacks : (byte : ℕ) → List ℕ → (n : ℕ) → Type 0
+Lacks byte bytes n = (k : ℕ) → k < n → slice_index bytes k ≡ byte → ⊥

@@ -1,9 +1,22 @@
 // A job cut into lines, and a line into fields.
-ghost use Rattle.std.specs.Prelude.{◌≡◌, ◌<◌, ◌≤◌, [], ◌∷◌, map, length, take, IfSome, IfNone};
-ghost use Rattle.request.specs.Lines.{fields_behind, fields_of, lines_of};
+ghost use Rattle.std.specs.Prelude.{◌≡◌, ◌<◌, ◌≤◌, [], ◌∷◌, map, length, take, slice_index, IfSome, IfNone};
+ghost use Rattle.request.specs.Lines.{Lacks, fields_behind, fields_of, lines_of};
 
 /// The most fields that a line needs, and one more.
 pub(crate) const PLACES: usize = 5;
+
+/// The first place of a byte.
+fn find(text: &[u8], byte: u8) -> Option<usize>
+    ensures found { IfSome result (λ i. (i < length text.now) × (slice_index text.now i ≡ byte) × Lacks byte text.now i) }
+    ensures none { IfNone result (Lacks byte text.now (length text.now)) }
+{
+    for (i, b) in text.iter().enumerate() {
+        if *b == byte {
+            return Some(i);
+        }
+    }
+    None
+}
 
 /// The first line of a job without its byte 10, and the bytes behind it; nothing where the job has no line.
 pub fn next_line(job: &[u8]) -> Option<(&[u8], &[u8])>
@@ -14,24 +27,20 @@ pub fn next_line(job: &[u8]) -> Option<(&[u8], &[u8])>
     if job.len() == 0 {
         return None;
     }
-    for (i, b) in job.iter().enumerate() {
-        if *b == b'\n' {
-            return Some((&job[..i], &job[i + 1..]));
-        }
+    match find(job, b'\n') {
+        Some(i) => Some((&job[..i], &job[i + 1..])),
+        None => Some((job, &job[job.len()..])),
     }
-    Some((job, &job[job.len()..]))
 }
 
 /// The first field of a line, and what is behind its comma, if it has one.
 fn first_field(line: &[u8]) -> (&[u8], Option<&[u8]>)
     ensures { fields_of line.now ≡ result.0.now ∷ fields_behind result.1 }
 {
-    for (i, b) in line.iter().enumerate() {
-        if *b == b',' {
-            return (&line[..i], Some(&line[i + 1..]));
-        }
+    match find(line, b',') {
+        Some(i) => (&line[..i], Some(&line[i + 1..])),
+        None => (line, None),
     }
-    (line, None)
 }
 
 /// The fields of a line, or its first five, put into five places; how many they are.

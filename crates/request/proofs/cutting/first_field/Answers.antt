@@ -3,12 +3,11 @@ use Rattle.std.proofs.lemmas.Slice.{between_to_end}
 use Rattle.request.proofs.Parting.{at_comma, no_comma}
 use Rattle.request.proofs.cutting.first_field.Goals as goal
 
-pub returns-then-b-eq44 : goal.returns-then-b-eq44
-returns-then-b-eq44 c =
+pub returns-in-Some : goal.returns-in-Some
+returns-in-Some c =
     let line = c.args.line.now in
-    let i = c.loop-i.i in
-    let cut = at_comma line i (omega arith) c.if-b-eq44.true c.loop-i.invariant in
-    rw (between_to_end line (i + 1) (length line) (omega arith), add-one) cut
+    let (below, here, before) = c.in-Some.ensures.found in
+    rw (between_to_end line (c.in-Some.i + 1) (length line) (omega arith), add-one) (at_comma line c.in-Some.i below here before)
 
-pub returns : goal.returns
-returns c = no_comma c.args.line.now (λ k l. c.loop-i.invariant k (omega arith))
+pub returns-in-None : goal.returns-in-None
+returns-in-None c = no_comma c.args.line.now c.in-None.ensures.none

@@ -3,12 +3,11 @@ use Rattle.std.proofs.lemmas.Slice.{between_to_end}
 use Rattle.request.proofs.Lining.{at_end, whole_line}
 use Rattle.request.proofs.cutting.next_line.Goals as goal
 
-pub returns-then-b-eq10-clause-some : goal.returns-then-b-eq10-clause-some
-returns-then-b-eq10-clause-some c =
+pub returns-in-Some-clause-some : goal.returns-in-Some-clause-some
+returns-in-Some-clause-some c =
     let job = c.args.job.now in
-    let i = c.loop-i.i in
-    let cut = at_end job i (omega arith) c.if-b-eq10.true c.loop-i.invariant in
-    rw (between_to_end job (i + 1) (length job) (omega arith), add-one) cut
+    let (below, here, before) = c.in-Some.ensures.found in
+    rw (between_to_end job (c.in-Some.i + 1) (length job) (omega arith), add-one) (at_end job c.in-Some.i below here before)
 
-pub returns-clause-some : goal.returns-clause-some
-returns-clause-some c = whole_line c.args.job.now (omega arith) (λ k l. c.loop-i.invariant k (omega arith))
+pub returns-in-None-clause-some : goal.returns-in-None-clause-some
+returns-in-None-clause-some c = whole_line c.args.job.now (omega arith) c.in-None.ensures.none
