@@ -1,6 +1,5 @@
 // One call out of a list.
 ghost use Rattle.std.specs.Prelude.{◌≡◌};
-ghost use Rattle.net.specs.Nets.{seen};
 ghost use Rattle.net.proofs.Owned.{own_meets};
 ghost use Rattle.net_laws.specs.Answers.{JoinAnswers, World};
 ghost use Rattle.net_laws.specs.Worlds.{Keeps, joining, wiring};
@@ -22,7 +21,7 @@ pub trait NetCall<S: Space> {
 
     /// Makes the call.
     fn make(&self, net: &mut Net<S>) -> Result<u64, Fault>
-        ensures answer { JoinAnswers (world net.old.space) (seen net.old.board) (seen net.new.board) (among self.now) result }
+        ensures answer { JoinAnswers (world net.old.space) net.old.state net.new.state (among self.now) result }
         ensures stays { net.new.space ≡ net.old.space };
 
     // Every space keeps the laws.

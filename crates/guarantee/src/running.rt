@@ -1,6 +1,5 @@
 // Lists of calls, made on a net.
 ghost use Rattle.std.specs.Prelude.{◌≡◌, ℕ, ◌≤◌, min, map, length, take, Result as Answered, slice_index_or};
-ghost use Rattle.net.specs.Nets.{seen};
 ghost use Rattle.net_laws.specs.Worlds.{joining as joiningWorld, wiring as wiringWorld};
 ghost use Rattle.net_laws.specs.declared.fault.Fault.{Fault as Refusal};
 ghost use Rattle.guarantee.specs.Kept.{Kept, wired};
@@ -20,7 +19,7 @@ pub fn run<S: Space, C: NetCall<S>>(
     answers: &mut [Result<u64, Fault>],
 ) -> usize
     ensures count { result ≡ min (length calls.now) (length answers.old) }
-    ensures kept { Kept (C.world net.old.space) (seen net.old.board) (map C.among (take result calls.now)) (take result answers.new) (seen net.new.board) }
+    ensures kept { Kept (C.world net.old.space) net.old.state (map C.among (take result calls.now)) (take result answers.new) net.new.state }
     ensures rest { (k : ℕ) (d : Answered ℕ Refusal) → result ≤ k → slice_index_or answers.new k d ≡ slice_index_or answers.old k d }
     ensures stays { net.new.space ≡ net.old.space }
 {
@@ -50,11 +49,11 @@ pub fn guarantee<W: Space, J: Joining>(
     joining_answers: &mut [Result<u64, Fault>],
 ) -> Made
     ensures wiring_count { result.wiring ≡ min (length calls.now) (length answers.old) }
-    ensures wiring { Kept (wiringWorld W.Space wiring.old.space) (seen wiring.old.board) (wired (take result.wiring calls.now)) (take result.wiring answers.new) (seen wiring.new.board) }
+    ensures wiring { Kept (wiringWorld W.Space wiring.old.space) wiring.old.state (wired (take result.wiring calls.now)) (take result.wiring answers.new) wiring.new.state }
     ensures wiring_rest { (k : ℕ) (d : Answered ℕ Refusal) → result.wiring ≤ k → slice_index_or answers.new k d ≡ slice_index_or answers.old k d }
     ensures wiring_stays { wiring.new.space ≡ wiring.old.space }
     ensures joining_count { result.joining ≡ min (length joining_calls.now) (length joining_answers.old) }
-    ensures joining { Kept (joiningWorld J.Space J.Joining.own joining.old.space) (seen joining.old.board) (take result.joining joining_calls.now) (take result.joining joining_answers.new) (seen joining.new.board) }
+    ensures joining { Kept (joiningWorld J.Space J.Joining.own joining.old.space) joining.old.state (take result.joining joining_calls.now) (take result.joining joining_answers.new) joining.new.state }
     ensures joining_rest { (k : ℕ) (d : Answered ℕ Refusal) → result.joining ≤ k → slice_index_or joining_answers.new k d ≡ slice_index_or joining_answers.old k d }
     ensures joining_stays { joining.new.space ≡ joining.old.space }
 {

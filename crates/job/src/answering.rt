@@ -1,6 +1,5 @@
 // What answers the lines of a job behind line 1: a net, or the refusal of line 1.
 ghost use Rattle.std.specs.Prelude.{◌≡◌, ◌≤◌, length};
-ghost use Rattle.net.specs.Nets.{seen};
 ghost use Rattle.job.specs.Jobs.{AnswersLine};
 ghost use Rattle.job.specs.Stages.Stage.{over as overNet, without as withoutNet};
 ghost use Rattle.job.specs.Stages.{Laws, NetFollows, Stage};
@@ -43,7 +42,7 @@ fn answer<S: Space, C: JobCall<S>>(
     net: &mut Net<S>,
     asked: Result<Request, TextFault>,
 ) -> Result<Reply, TextFault>
-    ensures gives { NetFollows (C.NetCall.world net.old.space) C.JobCall.joins asked (seen net.old.board) (seen net.new.board) result }
+    ensures gives { NetFollows (C.NetCall.world net.old.space) C.JobCall.joins asked net.old.state net.new.state result }
     ensures stays { net.new.space ≡ net.old.space }
 {
     match asked? {
@@ -59,7 +58,7 @@ fn answer<S: Space, C: JobCall<S>>(
 }
 
 impl<S: Space, C: JobCall<S>> Answerer for OverNet<S, C> {
-    ghost stage = { λ o. overNet (C.NetCall.world o.net.space) C.JobCall.joins (seen o.net.board) };
+    ghost stage = { λ o. overNet (C.NetCall.world o.net.space) C.JobCall.joins o.net.state };
 
     ghost laws = { λ o. C.NetCall.keeps o.net.space };
 

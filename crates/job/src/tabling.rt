@@ -1,5 +1,4 @@
 ghost use Rattle.std.specs.Prelude.{◌≡◌, ◌≤◌, ◌<◌, ◌+◌, ◌++◌, length};
-ghost use Rattle.net.specs.Nets.{seen};
 ghost use Rattle.job.specs.Places.{Puts, put_at};
 ghost use Rattle.reply.specs.Texts.{answer_text, row_text, rows_in, rows_text};
 ghost use Rattle.tree_laws.specs.Trees.{row_of};
@@ -14,8 +13,8 @@ use space::Space;
 
 /// The line of the row `k`.
 fn line_at<S: Space>(net: &Net<S>, k: usize) -> ArrayString<LINE>
-    requires { k < length (rows_in (seen net.now.board).tree) }
-    ensures { result.bytes ≡ row_text k (row_of (rows_in (seen net.now.board).tree) k) }
+    requires { k < length (rows_in net.now.state.tree) }
+    ensures { result.bytes ≡ row_text k (row_of (rows_in net.now.state.tree) k) }
 {
     let row = net.row(k).unwrap_or_default();
     row_line(k as u64, row)
@@ -23,8 +22,8 @@ fn line_at<S: Space>(net: &Net<S>, k: usize) -> ArrayString<LINE>
 
 /// How many bytes the lines of the rows take; nothing where that is more than `room`.
 fn table_size<S: Space>(net: &Net<S>, count: usize, room: usize) -> Option<usize>
-    requires { count ≡ length (rows_in (seen net.now.board).tree) }
-    ensures { Sized room (length (rows_text 0 (rows_in (seen net.now.board).tree))) result }
+    requires { count ≡ length (rows_in net.now.state.tree) }
+    ensures { Sized room (length (rows_text 0 (rows_in net.now.state.tree))) result }
 {
     let mut size = 0;
     for k in 0..count {
@@ -39,10 +38,10 @@ fn table_size<S: Space>(net: &Net<S>, count: usize, room: usize) -> Option<usize
 
 /// Puts the lines of the rows at a place where they fit, and answers the place behind them.
 fn put_rows<S: Space>(net: &Net<S>, count: usize, out: &mut [u8], at: usize) -> usize
-    requires count { count ≡ length (rows_in (seen net.now.board).tree) }
-    requires fits { at + length (rows_text 0 (rows_in (seen net.now.board).tree)) ≤ length out.old }
-    ensures end { result ≡ at + length (rows_text 0 (rows_in (seen net.now.board).tree)) }
-    ensures bytes { out.new ≡ put_at out.old at (rows_text 0 (rows_in (seen net.now.board).tree)) }
+    requires count { count ≡ length (rows_in net.now.state.tree) }
+    requires fits { at + length (rows_text 0 (rows_in net.now.state.tree)) ≤ length out.old }
+    ensures end { result ≡ at + length (rows_text 0 (rows_in net.now.state.tree)) }
+    ensures bytes { out.new ≡ put_at out.old at (rows_text 0 (rows_in net.now.state.tree)) }
 {
     let mut end = at;
     for k in 0..count {
@@ -60,9 +59,9 @@ fn put_table<S: Space>(
     out: &mut [u8],
     at: usize,
 ) -> Option<usize>
-    requires count { count ≡ length (rows_in (seen net.now.board).tree) }
+    requires count { count ≡ length (rows_in net.now.state.tree) }
     requires at { at ≤ length out.old }
-    ensures { Puts out.old at (rows_text 0 (rows_in (seen net.now.board).tree) ++ last.now) result out.new }
+    ensures { Puts out.old at (rows_text 0 (rows_in net.now.state.tree) ++ last.now) result out.new }
 {
     let room = out.len() - at;
     let size = table_size(net, count, room)?;
@@ -82,8 +81,8 @@ pub(crate) fn put_answer<S: Space>(
     at: usize,
 ) -> Option<usize>
     requires at { at ≤ length out.old }
-    requires counted { Counted (seen net.now.board) answer }
-    ensures { Puts out.old at (answer_text (seen net.now.board) number answer) result out.new }
+    requires counted { Counted net.now.state answer }
+    ensures { Puts out.old at (answer_text net.now.state number answer) result out.new }
 {
     let last = last_line(number, answer);
     match answer {

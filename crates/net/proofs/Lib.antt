@@ -2,6 +2,5 @@ pub mod Boards
 pub mod Breaks
 pub mod Builds
 pub mod Moves
-pub mod Nets
 pub mod Owned
 pub mod Worsts

@@ -1,2 +1,3 @@
 pub mod Nets
 pub mod Sinks
+pub mod Seen

@@ -1,13 +1,12 @@
 ghost use Rattle.std.specs.Prelude.{◌≡◌, IfOk};
 ghost use Rattle.net_laws.specs.States.{fresh};
-ghost use Rattle.net_laws.specs.Worlds.{Whole};
-ghost use Rattle.net.specs.Nets.{seen};
 
 use crate::board::Board;
 use joined::Joiner;
 use space::Space;
 use span::Spanner;
 use std::alloc::{AllocError, Global};
+use std::marker::Model;
 use straight::Builder;
 
 mod building;
@@ -30,7 +29,19 @@ pub struct Net<S: Space> {
     space: S,
     board: Board,
     work: Work,
-    pub ghost whole: { Whole S.Space space (seen board) },
+}
+
+impl<S: Space> Model for Net<S> {
+    ghost use Rattle.net.specs.Seen.{Seen};
+
+    ghost Value = { Seen S };
+
+    ghost use Rattle.net.specs.Nets.{seen};
+    ghost use Rattle.net_laws.specs.Worlds.{Whole};
+
+    ghost view = { λ n. record { space = n.space; state = seen n.board } };
+
+    ghost invariant = { λ n. Whole S.Space n.space (seen n.board) };
 }
 
 impl Work {
@@ -49,7 +60,7 @@ impl Work {
 impl<S: Space + Drop> Net<S> {
     /// A net without nodes in the space.
     pub fn new(heap: Global, space: S) -> Result<Net<S>, AllocError>
-        ensures { IfOk result (λ n. (seen n.board ≡ fresh) × (n.space ≡ space)) }
+        ensures { IfOk result (λ n. n ≡ record { space = space; state = fresh }) }
     {
         let board = Board::new(heap)?;
         let work = Work::new(heap)?;

@@ -2,7 +2,6 @@ ghost use Rattle.std.specs.Prelude.{◌≡◌, true, is_err};
 ghost use Rattle.net_laws.specs.Answers.{AllowAnswer, Answers, PinAnswer};
 ghost use Rattle.net_laws.specs.declared.call.Call.TheVariants.{Pin as PinCall};
 ghost use Rattle.net_laws.specs.Worlds.{cut, wiring};
-ghost use Rattle.net.specs.Nets.{seen};
 
 use super::Net;
 use crate::asking::{admitted, fits};
@@ -14,9 +13,9 @@ use walk::Allowance;
 impl<S: Space> Net<S> {
     /// Adds a pin, the first of them the driver, and answers its number. Steiner points, edges and tree are dropped.
     pub fn pin(&mut self, spot: Spot) -> Result<usize, Fault>
-        ensures always { PinAnswer (cut (wiring S.Space self.old.space)) (seen self.old.board) (seen self.new.board) spot result }
+        ensures always { PinAnswer (cut (wiring S.Space self.old.space)) self.old.state self.new.state spot result }
         ensures unchanged { is_err result ≡ true → self.new ≡ self.old }
-        ensures answer { Answers (wiring S.Space self.old.space) (seen self.old.board) (seen self.new.board) (PinCall spot) result }
+        ensures answer { Answers (wiring S.Space self.old.space) self.old.state self.new.state (PinCall spot) result }
         ensures stays { self.new.space ≡ self.old.space }
     {
         fits(&self.space)?;
@@ -32,9 +31,9 @@ impl<S: Space> Net<S> {
 
     /// Sets the allowance p/q. The tree is dropped.
     pub fn allow(&mut self, p: u64, q: u64) -> Result<(), Fault>
-        ensures always { AllowAnswer (cut (wiring S.Space self.old.space)) (seen self.old.board) (seen self.new.board) p q result }
+        ensures always { AllowAnswer (cut (wiring S.Space self.old.space)) self.old.state self.new.state p q result }
         ensures unchanged { is_err result ≡ true → self.new ≡ self.old }
-        ensures answer { AllowAnswer (wiring S.Space self.old.space) (seen self.old.board) (seen self.new.board) p q result }
+        ensures answer { AllowAnswer (wiring S.Space self.old.space) self.old.state self.new.state p q result }
         ensures stays { self.new.space ≡ self.old.space }
     {
         let allowance = Allowance::new(p, q).ok_or(Fault::BadAllowance)?;

@@ -2,7 +2,6 @@ ghost use Rattle.std.specs.Prelude.{◌≡◌};
 ghost use Rattle.net_laws.specs.Readings.{PathAnswer, RowAnswer, RowsAnswer, WorstAnswer};
 ghost use Rattle.span.specs.Lengths.{length_of};
 ghost use Rattle.tree.specs.Hooks.{reach_of};
-ghost use Rattle.net.specs.Nets.{seen};
 
 use super::Net;
 use net_laws::{Fault, Reach, Worst};
@@ -13,14 +12,14 @@ use tree_laws::Row;
 impl<S: Space> Net<S> {
     /// How many rows the tree has; they are numbered from 0.
     pub fn rows(&self) -> Result<usize, Fault>
-        ensures { RowsAnswer (seen self.now.board) result }
+        ensures { RowsAnswer self.now.state result }
     {
         Ok(self.board.standing()?.tree().len())
     }
 
     /// The row `k` of the tree.
     pub fn row(&self, k: usize) -> Result<Row, Fault>
-        ensures { RowAnswer (seen self.now.board) k result }
+        ensures { RowAnswer self.now.state k result }
     {
         let built = self.board.standing()?;
         built.tree().row(k).ok_or(Fault::OutOfRange)
@@ -28,8 +27,8 @@ impl<S: Space> Net<S> {
 
     /// How far the pin `k` is from the driver: along the tree, and directly.
     pub fn path(&self, k: usize) -> Result<Reach, Fault>
-        ensures always { PathAnswer (reach_of S.Space self.now.space) (seen self.now.board) k result }
-        ensures answer { PathAnswer (S.Space.between self.now.space) (seen self.now.board) k result }
+        ensures always { PathAnswer (reach_of S.Space self.now.space) self.now.state k result }
+        ensures answer { PathAnswer (S.Space.between self.now.space) self.now.state k result }
     {
         let built = self.board.standing()?;
         if k >= self.board.pins() {
@@ -42,8 +41,8 @@ impl<S: Space> Net<S> {
 
     /// The sink whose path is the longest by its direct distance.
     pub fn worst(&self) -> Result<Worst, Fault>
-        ensures always { WorstAnswer (length_of S.Space self.now.space) (seen self.now.board) result }
-        ensures answer { WorstAnswer (S.Space.between self.now.space) (seen self.now.board) result }
+        ensures always { WorstAnswer (length_of S.Space self.now.space) self.now.state result }
+        ensures answer { WorstAnswer (S.Space.between self.now.space) self.now.state result }
     {
         Ok(self.board.standing()?.worst(&self.space))
     }

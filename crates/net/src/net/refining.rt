@@ -3,7 +3,6 @@ ghost use Rattle.net_laws.specs.Answers.{Answers, HookAnswer, JoinAnswers, Share
 ghost use Rattle.net_laws.specs.declared.call.Call.TheVariants.{Hook as HookCall};
 ghost use Rattle.net_laws.specs.declared.call.JoinCall.TheVariants.{Share as ShareCall};
 ghost use Rattle.net_laws.specs.Worlds.{cut, joining, wiring};
-ghost use Rattle.net.specs.Nets.{seen};
 
 use super::Net;
 use net_laws::Fault;
@@ -12,9 +11,9 @@ use space::{Joining, Space};
 impl<S: Space> Net<S> {
     /// Makes the best hook move of the tree and answers what it saves.
     pub fn hook(&mut self) -> Result<u64, Fault>
-        ensures always { HookAnswer (cut (wiring S.Space self.old.space)) (seen self.old.board) (seen self.new.board) result }
+        ensures always { HookAnswer (cut (wiring S.Space self.old.space)) self.old.state self.new.state result }
         ensures unchanged { is_err result ≡ true → self.new ≡ self.old }
-        ensures answer { Answers (wiring S.Space self.old.space) (seen self.old.board) (seen self.new.board) HookCall result }
+        ensures answer { Answers (wiring S.Space self.old.space) self.old.state self.new.state HookCall result }
         ensures stays { self.new.space ≡ self.old.space }
     {
         self.board.hook(&self.space)
@@ -24,9 +23,9 @@ impl<S: Space> Net<S> {
 impl<S: Joining> Net<S> {
     /// Makes the best share move of the tree and answers what it saves.
     pub fn share(&mut self) -> Result<u64, Fault>
-        ensures always { ShareAnswer (cut (joining S.Space S.Joining.own self.old.space)) (seen self.old.board) (seen self.new.board) result }
+        ensures always { ShareAnswer (cut (joining S.Space S.Joining.own self.old.space)) self.old.state self.new.state result }
         ensures unchanged { is_err result ≡ true → self.new ≡ self.old }
-        ensures answer { JoinAnswers (joining S.Space S.Joining.own self.old.space) (seen self.old.board) (seen self.new.board) ShareCall result }
+        ensures answer { JoinAnswers (joining S.Space S.Joining.own self.old.space) self.old.state self.new.state ShareCall result }
         ensures stays { self.new.space ≡ self.old.space }
     {
         self.board.share(&self.space)

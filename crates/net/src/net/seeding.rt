@@ -4,7 +4,6 @@ ghost use Rattle.net_laws.specs.declared.call.Call.TheVariants.{Edge as EdgeCall
 ghost use Rattle.net_laws.specs.States.{unseeded};
 ghost use Rattle.net_laws.specs.Worlds.{cut, wiring};
 ghost use Rattle.span.specs.Lengths.{length_of};
-ghost use Rattle.net.specs.Nets.{seen};
 
 use super::Net;
 use crate::asking::admitted;
@@ -16,9 +15,9 @@ use tree::reach;
 impl<S: Space> Net<S> {
     /// Adds a Steiner point and answers its number. The tree is dropped.
     pub fn steiner(&mut self, spot: Spot) -> Result<usize, Fault>
-        ensures always { SteinerAnswer (cut (wiring S.Space self.old.space)) (seen self.old.board) (seen self.new.board) spot result }
+        ensures always { SteinerAnswer (cut (wiring S.Space self.old.space)) self.old.state self.new.state spot result }
         ensures unchanged { is_err result ≡ true → self.new ≡ self.old }
-        ensures answer { Answers (wiring S.Space self.old.space) (seen self.old.board) (seen self.new.board) (SteinerCall spot) result }
+        ensures answer { Answers (wiring S.Space self.old.space) self.old.state self.new.state (SteinerCall spot) result }
         ensures stays { self.new.space ≡ self.old.space }
     {
         self.board.paired()?;
@@ -31,9 +30,9 @@ impl<S: Space> Net<S> {
 
     /// Adds an edge between the nodes `a` and `b`, and answers its length. The tree is dropped.
     pub fn edge(&mut self, a: usize, b: usize) -> Result<u64, Fault>
-        ensures always { EdgeAnswer (cut (wiring S.Space self.old.space)) (seen self.old.board) (seen self.new.board) a b result }
+        ensures always { EdgeAnswer (cut (wiring S.Space self.old.space)) self.old.state self.new.state a b result }
         ensures unchanged { is_err result ≡ true → self.new ≡ self.old }
-        ensures answer { Answers (wiring S.Space self.old.space) (seen self.old.board) (seen self.new.board) (EdgeCall a b) result }
+        ensures answer { Answers (wiring S.Space self.old.space) self.old.state self.new.state (EdgeCall a b) result }
         ensures stays { self.new.space ≡ self.old.space }
     {
         self.board.paired()?;
@@ -54,8 +53,8 @@ impl<S: Space> Net<S> {
 
     /// Drops the Steiner points, the edges and the tree.
     pub fn unseed(&mut self)
-        ensures always { seen self.new.board ≡ unseeded (seen self.old.board) }
-        ensures answer { Answers (wiring S.Space self.old.space) (seen self.old.board) (seen self.new.board) UnseedCall (Ok 0) }
+        ensures always { self.new.state ≡ unseeded self.old.state }
+        ensures answer { Answers (wiring S.Space self.old.space) self.old.state self.new.state UnseedCall (Ok 0) }
         ensures stays { self.new.space ≡ self.old.space }
     {
         self.board.drop_seed();
@@ -63,9 +62,9 @@ impl<S: Space> Net<S> {
 
     /// Grows the spanning seed of the pins in place of Steiner points and edges, and answers its wire. The tree is dropped.
     pub fn span(&mut self) -> Result<u64, Fault>
-        ensures always { SpanBy (cut (wiring S.Space self.old.space)) (seen self.old.board) (seen self.new.board) (length_of S.Space self.old.space) result }
+        ensures always { SpanBy (cut (wiring S.Space self.old.space)) self.old.state self.new.state (length_of S.Space self.old.space) result }
         ensures unchanged { is_err result ≡ true → self.new ≡ self.old }
-        ensures answer { Answers (wiring S.Space self.old.space) (seen self.old.board) (seen self.new.board) SpanCall result }
+        ensures answer { Answers (wiring S.Space self.old.space) self.old.state self.new.state SpanCall result }
         ensures stays { self.new.space ≡ self.old.space }
     {
         self.board.paired()?;

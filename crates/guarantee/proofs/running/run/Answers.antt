@@ -1,6 +1,5 @@
 use Rattle.std.proofs.Common.{◌≡◌, ℕ, ◌+◌, ◌<◌, List, [], ◌∷◌, ◌++◌, length, get_or, map, take, set, Result, sym, refl, ap, ◌∙◌, subst, arith, length-take, get_or-take}
 use Rattle.std.proofs.lemmas.List.{map_more, take_more_set}
-use Rattle.net.specs.Nets.{seen}
 use Rattle.net_laws.specs.Answers.{JoinAnswers}
 use Rattle.net_laws.specs.declared.call.JoinCall.{JoinCall}
 use Rattle.net_laws.specs.declared.fault.Fault.{Fault}
@@ -11,7 +10,7 @@ use Rattle.guarantee.proofs.running.run.Goals as goal
 pub loop-i-init : goal.loop-i-init
 loop-i-init g c =
     let s = c.args.net.now.space in
-    (kept_none (g.C.NetCall.world s) (g.met.C.NetCall.keeps s) (seen c.args.net.now.board), λ k d h. refl, refl)
+    (kept_none (g.C.NetCall.world s) (g.met.C.NetCall.keeps s) c.args.net.now.state, λ k d h. refl, refl)
 
 pub loop-i-preserved : goal.loop-i-preserved
 loop-i-preserved g c =
@@ -21,9 +20,9 @@ loop-i-preserved g c =
     let i = c.loop-i.i in
     let calls = c.args.calls.now in
     let xs = c.loop-i.answers in
-    let n₀ = seen c.args.net.now.board in
-    let n = seen c.loop-i.net.board in
-    let m = seen c.make.new.net.board in
+    let n₀ = c.args.net.now.state in
+    let n = c.loop-i.net.state in
+    let m = c.make.new.net.state in
     let r = c.make.result in
     let call = c.call-item.result in
     let long = length-take c.min-count.result calls in

@@ -1,5 +1,4 @@
 use Rattle.std.proofs.Common.{◌≡◌, ℕ, ◌≤◌, get_or, map, take, Result}
-use Rattle.net.specs.Nets.{seen}
 use Rattle.net_laws.specs.declared.fault.Fault.{Fault}
 use Rattle.guarantee.specs.Kept.{Kept}
 use Rattle.guarantee.proofs.running.run.Given as goal
@@ -7,6 +6,6 @@ use Rattle.guarantee.proofs.running.run.Given as goal
 -- the calls so far were made and answered, and the places past them stay
 abbrev pub invariant-loop-i : goal.invariant-loop-i
 invariant-loop-i g l =
-    Kept (g.C.NetCall.world l.initial.net.space) (seen l.initial.net.board) (map g.C.NetCall.among (take l.i l.calls)) (take l.i l.answers) (seen l.net.board)
+    Kept (g.C.NetCall.world l.initial.net.space) l.initial.net.state (map g.C.NetCall.among (take l.i l.calls)) (take l.i l.answers) l.net.state
     × ((k : ℕ) (d : Result ℕ Fault) → l.i ≤ k → get_or l.answers k d ≡ get_or l.initial.answers k d)
     × (l.net.space ≡ l.initial.net.space)

@@ -1,6 +1,5 @@
 use Rattle.std.proofs.Common.{◌≡◌, ◌+◌, ◌++◌, ◌<◌, length, take, ap, ◌∙◌, sym, arith, rules}
 use Rattle.std.proofs.lemmas.List.{length-append}
-use Rattle.net.specs.Nets.{seen}
 use Rattle.job.specs.Places.{put_at}
 use Rattle.reply.specs.Texts.{row_text, rows_in, rows_text}
 use Rattle.tree_laws.specs.Trees.{row_of}
@@ -10,7 +9,7 @@ use Rattle.job.proofs.tabling.put_rows.Goals as goal
 
 pub place-end-requires : goal.place-end-requires
 place-end-requires g c =
-    let rows = rows_in (seen c.args.net.now.board).tree in
+    let rows = rows_in c.args.net.now.state.tree in
     let k = c.loop-k.k in
     let h : k < length rows = omega (arith, c.requires.count, c.loop-k-test.true) in
     let A = rows_text 0 (take k rows) in
@@ -20,7 +19,7 @@ place-end-requires g c =
 
 pub loop-k-preserved : goal.loop-k-preserved
 loop-k-preserved g c =
-    let rows = rows_in (seen c.args.net.now.board).tree in
+    let rows = rows_in c.args.net.now.state.tree in
     let k = c.loop-k.k in
     let h : k < length rows = omega (arith, c.requires.count, c.loop-k-test.true) in
     let o = c.args.out.now in

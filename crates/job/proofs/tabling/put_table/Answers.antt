@@ -1,5 +1,4 @@
 use Rattle.std.proofs.Common.{◌+◌, ◌≤◌, length, subst, arith, List, ℕ}
-use Rattle.net.specs.Nets.{seen}
 use Rattle.job.specs.Places.{Puts, put_at}
 use Rattle.reply.specs.Texts.{rows_in, rows_text}
 use Rattle.job.proofs.Putting.{put_both}
@@ -7,7 +6,7 @@ use Rattle.job.proofs.tabling.put_table.Goals as goal
 
 pub returns : goal.returns
 returns g c =
-    let rows = rows_in (seen c.args.net.now.board).tree in
+    let rows = rows_in c.args.net.now.state.tree in
     let R = rows_text 0 rows in
     let o = c.args.out.now in
     let a = c.args.at in

@@ -1,6 +1,5 @@
 use Rattle.std.proofs.Common.{◌+◌, ◌<◌, length, take, ap, arith}
 use Rattle.std.proofs.lemmas.List.{length-append}
-use Rattle.net.specs.Nets.{seen}
 use Rattle.reply.specs.Texts.{row_text, rows_in, rows_text}
 use Rattle.tree_laws.specs.Trees.{row_of}
 use Rattle.job.proofs.Tables.{part, row_more}
@@ -8,7 +7,7 @@ use Rattle.job.proofs.tabling.table_size.Goals as goal
 
 pub returns-then-len-room : goal.returns-then-len-room
 returns-then-len-room g c =
-    let rows = rows_in (seen c.args.net.now.board).tree in
+    let rows = rows_in c.args.net.now.state.tree in
     let k = c.loop-k.k in
     let h : k < length rows = omega (arith, c.requires, c.loop-k-test.true) in
     let A = rows_text 0 (take k rows) in
@@ -17,7 +16,7 @@ returns-then-len-room g c =
 
 pub loop-k-preserved : goal.loop-k-preserved
 loop-k-preserved g c =
-    let rows = rows_in (seen c.args.net.now.board).tree in
+    let rows = rows_in c.args.net.now.state.tree in
     let k = c.loop-k.k in
     let h : k < length rows = omega (arith, c.requires, c.loop-k-test.true) in
     let A = rows_text 0 (take k rows) in

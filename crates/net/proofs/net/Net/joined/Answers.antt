@@ -4,7 +4,6 @@ use Rattle.joined.specs.Joinings.{Joinable}
 use Rattle.net_laws.specs.Worlds.{joining}
 use Rattle.net_laws.proofs.Sparing.{joined_bounds, joined_shorter, joined_spared}
 use Rattle.net.specs.Nets.{seen, table_of}
-use Rattle.net.proofs.Nets.{same_net}
 use Rattle.net.proofs.Owned.{joining_keeps_lem, whole_joined}
 use Rattle.share.specs.Shares.{join_of}
 use Rattle.tree.specs.Hooks.{reach_of}
@@ -12,21 +11,18 @@ use Rattle.tree.specs.Tables.{rows_of}
 use Rattle.net.proofs.Breaks.{joined_told, straight_joinable}
 use Rattle.net.proofs.net.Net.joined.Goals as goal
 
-pub returns-in_err-allowance-clause-unchanged : goal.returns-in_err-allowance-clause-unchanged
-returns-in_err-allowance-clause-unchanged g c = λ e. same_net _ _ refl refl refl
-
 pub join-requires : goal.join-requires
 join-requires g c =
-    let b = c.args.self.now.board in
+    let b = c.self.inside.board in
     let P : List ℕ → Type 0 = λ xs. Joinable (rows_of (table_of c.straight.new.self.tree)) xs in
     record {
       stands = c.straight.ensures.stands;
       joinable = subst P (sym c.broken-broken.ensures) (straight_joinable _ _ _ _ _ _ _ c.straight.ensures.straight (omega (arith, b.nodes, b.points, b.few)));
     }
 
-pub invariant_of-self-2 : goal.invariant_of-self-2
-invariant_of-self-2 g c =
-    let n = c.args.self.now in
+pub invariant_of-self : goal.invariant_of-self
+invariant_of-self g c =
+    let n = c.self.inside in
     let s = n.space in
     let G = g.S.Space in
     let J = g.S.Joining in
@@ -35,12 +31,12 @@ invariant_of-self-2 g c =
     let t = c.straight.ensures in
     let P : List ℕ → Type 0 = λ xs. Joins (reach_of G s) (join_of G J s) (rows_of (table_of c.straight.new.self.tree)) xs (rows_of (table_of c.join.new.self.tree)) in
     let x = joined_told G J s n.board c.straight.new.self c.join.new.self c.in_ok-allowance.allowance _ c.straight.result c.join.result c.in_ok-allowance.ensures t.straight t.seen (subst P c.broken-broken.ensures c.join.ensures.joins) c.join.ensures.wire c.join.ensures.seen in
-    let whole = whole_joined G J s law meets (seen n.board) (seen c.join.new.self) (Ok c.join.result) x tt n.whole in
-    record { whole = whole.1 }
+    let whole = whole_joined G J s law meets (seen n.board) (seen c.join.new.self) (Ok c.join.result) x tt c.self.invariant in
+    whole.1
 
 pub returns : goal.returns
 returns g c =
-    let n = c.args.self.now in
+    let n = c.self.inside in
     let s = n.space in
     let G = g.S.Space in
     let J = g.S.Joining in
@@ -49,14 +45,14 @@ returns g c =
     let t = c.straight.ensures in
     let P : List ℕ → Type 0 = λ xs. Joins (reach_of G s) (join_of G J s) (rows_of (table_of c.straight.new.self.tree)) xs (rows_of (table_of c.join.new.self.tree)) in
     let x = joined_told G J s n.board c.straight.new.self c.join.new.self c.in_ok-allowance.allowance _ c.straight.result c.join.result c.in_ok-allowance.ensures t.straight t.seen (subst P c.broken-broken.ensures c.join.ensures.joins) c.join.ensures.wire c.join.ensures.seen in
-    let whole = whole_joined G J s law meets (seen n.board) (seen c.join.new.self) (Ok c.join.result) x tt n.whole in
+    let whole = whole_joined G J s law meets (seen n.board) (seen c.join.new.self) (Ok c.join.result) x tt c.self.invariant in
     let laws = joining_keeps_lem G J s law meets in
     record {
-      always = x;
+      always = rw (← c.self.view_is) (x);
       unchanged = search rules;
-      answer = whole.0;
-      bounds = λ e. joined_bounds (joining G J s) laws (seen n.board) (seen c.join.new.self) n.whole c.join.result whole.0.0;
-      spared = λ e. joined_spared (joining G J s) laws (seen n.board) (seen c.join.new.self) n.whole c.join.result whole.0.0;
-      shorter = λ e. joined_shorter (joining G J s) laws (seen n.board) (seen c.join.new.self) n.whole c.join.result whole.0.0;
-      stays = refl;
+      answer = rw (← c.self.view_is) (whole.0);
+      bounds = rw (← c.self.view_is) (λ e. joined_bounds (joining G J s) laws (seen n.board) (seen c.join.new.self) c.self.invariant c.join.result whole.0.0);
+      spared = rw (← c.self.view_is) (λ e. joined_spared (joining G J s) laws (seen n.board) (seen c.join.new.self) c.self.invariant c.join.result whole.0.0);
+      shorter = rw (← c.self.view_is) (λ e. joined_shorter (joining G J s) laws (seen n.board) (seen c.join.new.self) c.self.invariant c.join.result whole.0.0);
+      stays = rw (← c.self.view_is) (refl);
     }

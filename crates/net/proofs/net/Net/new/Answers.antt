@@ -10,4 +10,4 @@ invariant_of-result g c =
     let G = g.S.Space in
     let s = c.args.space in
     let P : State → Type 0 = λ n. Whole G s n in
-    record { whole = subst P (sym c.in_ok-board.ensures) (fresh_tied (wiring G s) (wiring_keeps G s (g.met.S.Space.metric s))) }
+    subst P (sym c.in_ok-board.ensures) (fresh_tied (wiring G s) (wiring_keeps G s (g.met.S.Space.metric s)))

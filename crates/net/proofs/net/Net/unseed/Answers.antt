@@ -4,5 +4,5 @@ use Rattle.net.proofs.net.Net.unseed.Goals as goal
 
 pub invariant_of-self : goal.invariant_of-self
 invariant_of-self g c =
-    let n = c.args.self.now in
-    record { whole = whole_unseed g.S.Space n.space (g.met.S.Space.metric n.space) (seen n.board) (seen c.drop_seed.new.self) c.drop_seed.ensures n.whole }
+    let n = c.self.inside in
+    whole_unseed g.S.Space n.space (g.met.S.Space.metric n.space) (seen n.board) (seen c.drop_seed.new.self) c.drop_seed.ensures c.self.invariant

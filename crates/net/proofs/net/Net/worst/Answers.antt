@@ -11,7 +11,7 @@ use Rattle.net.proofs.net.Net.worst.Goals as goal
 
 pub returns : goal.returns
 returns g c =
-    let n = c.args.self.now in
+    let n = c.self.inside in
     let s = n.space in
     let b = n.board in
     let t = c.in_ok-standing.field-0.table.now in
@@ -22,6 +22,6 @@ returns g c =
     let st = stands b t (subst Up e c.in_ok-standing.field-0.stands) in
     let w = subst Worst e c.worst.ensures in
     record {
-      always = (not_none (seen b).tree rows st, (rows, st, w));
-      answer = (not_none (seen b).tree rows st, (rows, st, worst_own g.S.Space s (seen b) (g.met.S.Space.metric s) n.whole rows c.worst.result w));
+      always = rw (← c.self.view_is) (not_none (seen b).tree rows st, (rows, st, w));
+      answer = rw (← c.self.view_is) (not_none (seen b).tree rows st, (rows, st, worst_own g.S.Space s (seen b) (g.met.S.Space.metric s) c.self.invariant rows c.worst.result w));
     }
