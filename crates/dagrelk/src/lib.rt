@@ -18,7 +18,7 @@ pub const NO_MEMORY: u32 = 2;
 /// What a run did: how many lines it answered, how many bytes it wrote, and why it stopped.
 #[repr(C)]
 #[derive(Clone, Copy, Debug)]
-pub struct JobOutcome {
+pub struct DagrelkOutcome {
     pub lines: usize,
     pub bytes: usize,
     pub stop: u32,
@@ -26,16 +26,16 @@ pub struct JobOutcome {
 
 /// Runs a job, as `dagrelk_run(job, job_len, out, out_len)` in C.
 #[unsafe(no_mangle)]
-pub extern "C" fn dagrelk_run(heap: Global, job: &[u8], out: &mut [u8]) -> JobOutcome
+pub extern "C" fn dagrelk_run(heap: Global, job: &[u8], out: &mut [u8]) -> DagrelkOutcome
     ensures { RanForC job.now out.old out.new result }
 {
     match run(heap, job, out) {
-        Ok(outcome) => JobOutcome {
+        Ok(outcome) => DagrelkOutcome {
             lines: outcome.lines,
             bytes: outcome.bytes,
             stop: if outcome.stopped { NO_ROOM } else { ANSWERED },
         },
-        Err(_) => JobOutcome {
+        Err(_) => DagrelkOutcome {
             lines: 0,
             bytes: 0,
             stop: NO_MEMORY,

@@ -8,7 +8,7 @@ use Rattle.job.specs.Answering.{Gives, LineGives, Told, Under, log_of, net_of, s
 use Rattle.job.specs.Jobs.{AnswersLine, Ran, Stops}
 use Rattle.job.specs.Stages.{Laws, Stage}
 use Rattle.job.specs.declared.running.Outcome.{Outcome}
-use Rattle.job.proofs.Lines.{after_both, after_more, gives_both, gives_more, text_both, text_more, under}
+use Rattle.job.proofs.Lines.{after_both, after_more, gives_both, gives_front, gives_more, text_both, text_more, under}
 use Rattle.job.proofs.Putting.{length_put, put_put}
 
 pub record Going (i : ℕ) (n m : Stage) (job rest before now : List ℕ) (count size : ℕ) : Type 0 where
@@ -85,7 +85,9 @@ module _ (i : ℕ) (n : Stage) (job before : List ℕ) where
         written = w;
         fits = f;
         stops = s;
-        guarantee = λ new. let P : Stage → Type 0 = λ x. Under (log_of (told ++ late)) x in subst P (sym net) (under n (told ++ late) laws new g);
+        guarantee = λ some rest e new.
+            let P : List Told → Type 0 = λ ts. Gives n ts in
+            under n some laws new (gives_front n some rest (subst P (sym e) g));
       }
 
   -- no line is left

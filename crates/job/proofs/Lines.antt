@@ -44,6 +44,10 @@ pub gives_both : (n : Stage) (ts us : List Told) → Gives n ts → Gives (stage
 gives_both n [] us g h = h
 gives_both n (x ∷ ts) us g h = (g.0, gives_both x.after ts us g.1 h)
 
+pub gives_front : (n : Stage) (ts us : List Told) → Gives n (ts ++ us) → Gives n ts
+gives_front n [] us g = tt
+gives_front n (x ∷ ts) us g = (g.0, gives_front x.after ts us g.1)
+
 pub after_both : (n : Stage) (ts us : List Told) → stage_after n (ts ++ us) ≡ stage_after (stage_after n ts) us
 after_both n [] us = refl
 after_both n (x ∷ ts) us = after_both x.after ts us

@@ -4,6 +4,8 @@ use Rattle.net_laws.specs.States.{State}
 use Rattle.request.specs.Lines.{lines_of}
 use Rattle.request.specs.Requests.{Reads}
 use Rattle.request.specs.declared.requests.Request.{Request}
+use Rattle.request.specs.declared.requests.Request.TheVariants.{Space}
+use Rattle.request.specs.declared.requests.Word.{Word}
 use Rattle.request.specs.declared.fault.TextFault.{TextFault}
 use Rattle.job.specs.Places.{Puts}
 use Rattle.reply.specs.Texts.{answer_text, rows_in}
@@ -36,12 +38,16 @@ pub record Ran (i : ℕ) (s s₁ : Stage) (job old new : List ℕ) (o : Outcome)
   pub written : new ≡ text_from i told ++ drop o.bytes old
   pub fits : o.bytes ≤ length old
   pub stops : Stops i job (length old) told late o.stopped
-  -- what the net holds is under the guarantee
-  pub guarantee : New s → Under (log_of (told ++ late)) s₁
+  -- after every line what the net holds is under the guarantee
+  pub guarantee : (some rest : List Told) → some ++ rest ≡ told ++ late → New s → Under (log_of some) (stage_after s some)
 
 -- What a run of a whole job did.
 abbrev pub JobRan : (job old new : List ℕ) → Outcome → Type 0
 JobRan job old new o = (s : Stage) × Ran 1 before s job old new o
+
+-- The first line of the job asks for a net, in the space of w under a lift of this price, if there is one. Only such a job wants memory.
+abbrev pub AsksNet : (job : List ℕ) → Type 0
+AsksNet job = (line : List ℕ) × (rest : List (List ℕ)) × (w : Word) × (price : Option ℕ) × (lines_of job ≡ line ∷ rest) × Reads line (Ok (Space w price))
 
 -- ---- parts of a run
 

@@ -4,7 +4,7 @@ ghost use Rattle.request.specs.declared.requests.Request.TheVariants as asks;
 ghost use Rattle.reply.specs.Texts.{table_text};
 ghost use Rattle.reply.specs.declared.reply.Reply.TheVariants.{Number};
 ghost use Rattle.job.specs.Answering.{net_of};
-ghost use Rattle.job.specs.Jobs.{Begun, JobRan};
+ghost use Rattle.job.specs.Jobs.{AsksNet, Begun, JobRan};
 ghost use Rattle.job.specs.Stages.Stage.{before, over, without};
 ghost use Rattle.job.specs.Stages.{Follows, joins_of, world_of};
 
@@ -108,6 +108,7 @@ pub fn run(heap: Global, job: &[u8], out: &mut [u8]) -> Result<Outcome, AllocErr
     ensures ran { IfOk result (λ o. JobRan job.now out.old out.new o) }
     ensures room { IfOk result (λ o. o.bytes ≤ length out.old) }
     ensures err { OnErr result (out.new ≡ out.old) }
+    ensures memory { OnErr result (AsksNet job.now) }
 {
     let Some((line, rest)) = next_line(job) else {
         return Ok(Outcome {

@@ -2,7 +2,6 @@ ghost use Rattle.std.specs.Prelude.{◌≡◌};
 ghost use Rattle.request.specs.declared.fault.TextFault.TheVariants.{Net as carried, BadField as bad};
 
 use net_laws::Fault;
-use std::fmt;
 
 /// A refusal of a line, or one of the net carried on whole.
 #[derive(Clone, Copy, Debug, PartialEq, Eq)]
@@ -40,20 +39,5 @@ impl From<Unread> for TextFault {
 
     fn from(unread: Unread) -> TextFault {
         TextFault::BadField(unread.0)
-    }
-}
-
-/// The refusal in words.
-impl fmt::Display for TextFault {
-    fn fmt<W: fmt::Write>(&self, f: &mut fmt::Formatter<W>) -> fmt::Result {
-        match self {
-            TextFault::LongLine => write!(f, "the line has more than 80 bytes"),
-            TextFault::NoLetter => write!(f, "field 1 is no known letter"),
-            TextFault::WrongFields => write!(f, "the line has not its letter's fields"),
-            TextFault::BadField(field) => write!(f, "field {field} is not good"),
-            TextFault::OutOfPlace => write!(f, "W and the other lines are out of order"),
-            TextFault::NoCall => write!(f, "the space has not this call"),
-            TextFault::Net(fault) => write!(f, "{fault}"),
-        }
     }
 }
