@@ -8,5 +8,5 @@ kit=$(dirname "$(rt doc)")
 (cd "$top/crates/dagrelk" && rt lib)
 mkdir -p "$here/out"
 rustc --edition 2024 -O -o "$here/out/run" "$here/main.rs" \
-  -C link-arg="$top/crates/dagrelk/out/libdagrelk.a" -C link-arg="$kit/c/liblibc_c.a" -C link-arg=-lpthread
+  -C link-arg="$top/crates/dagrelk/out/libdagrelk.a" -C link-arg="$kit/c/liblibc_c.a"
 "$here/out/run" "$@"

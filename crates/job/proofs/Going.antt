@@ -4,7 +4,7 @@ use Rattle.std.proofs.lemmas.List.{append-nil, drop-drop, drop_at, length-append
 use Rattle.request.specs.Lines.{lines_of}
 use Rattle.job.specs.Places.{put_at}
 use Rattle.reply.specs.Texts.{answer_text}
-use Rattle.job.specs.Answering.{Gives, LineGives, Told, Under, log_of, net_of, stage_after, text_from}
+use Rattle.job.specs.Answering.{Gives, LineGives, Told, net_of, stage_after, text_from}
 use Rattle.job.specs.Jobs.{AnswersLine, Ran, Stops}
 use Rattle.job.specs.Stages.{Laws, Stage}
 use Rattle.job.specs.declared.running.Outcome.{Outcome}

@@ -1,4 +1,5 @@
-ghost use Rattle.std.specs.Prelude.{◌≡◌, ◌≤◌, ◌<◌, ◌+◌, ◌++◌, length};
+ghost use Rattle.std.specs.Prelude.{◌≡◌, ◌≤◌, ◌<◌, ◌+◌, ◌*◌, ◌++◌, ◌⊎◌, length};
+ghost use Rattle.std.specs.Bool.{OnFalse, OnTrue};
 ghost use Rattle.job.specs.Places.{Puts, put_at};
 ghost use Rattle.reply.specs.Texts.{answer_text, row_text, rows_in, rows_text};
 ghost use Rattle.tree_laws.specs.Trees.{row_of};
@@ -36,11 +37,12 @@ fn table_size<S: Space>(net: &Net<S>, count: usize, room: usize) -> Option<usize
     Some(size)
 }
 
-/// Puts the lines of the rows at a place where they fit, and answers the place behind them.
+/// Puts the lines of the rows at a place where they fit, or where there is plenty of room for so many lines; answers the place behind them.
 fn put_rows<S: Space>(net: &Net<S>, count: usize, out: &mut [u8], at: usize) -> usize
     requires count { count ≡ length (rows_in net.now.state.tree) }
-    requires fits { at + length (rows_text 0 (rows_in net.now.state.tree)) ≤ length out.old }
+    requires fits { (at + length (rows_text 0 (rows_in net.now.state.tree)) ≤ length out.old) ⊎ (at + count * LINE ≤ length out.old) }
     ensures end { result ≡ at + length (rows_text 0 (rows_in net.now.state.tree)) }
+    ensures most { result ≤ at + count * LINE }
     ensures bytes { out.new ≡ put_at out.old at (rows_text 0 (rows_in net.now.state.tree)) }
 {
     let mut end = at;
@@ -49,6 +51,22 @@ fn put_rows<S: Space>(net: &Net<S>, count: usize, out: &mut [u8], at: usize) -> 
         end = place(out, end, line.as_bytes());
     }
     end
+}
+
+/// Whether the lines of the rows and one line more fit in the room. Where there is plenty, no line is made to find out.
+fn fits<S: Space>(net: &Net<S>, count: usize, more: usize, room: usize) -> bool
+    requires count { count ≡ length (rows_in net.now.state.tree) }
+    requires line { more ≤ LINE }
+    ensures some { OnTrue result ((length (rows_text 0 (rows_in net.now.state.tree)) + more ≤ room) ⊎ (count * LINE + LINE ≤ room)) }
+    ensures none { OnFalse result (room < length (rows_text 0 (rows_in net.now.state.tree)) + more) }
+{
+    if count < room / LINE {
+        return true;
+    }
+    match table_size(net, count, room) {
+        Some(size) => more <= room - size,
+        None => false,
+    }
 }
 
 /// Puts the rows and the last line at a place, and answers the place behind them; nothing, with nothing changed, where they do not fit.
@@ -61,11 +79,10 @@ fn put_table<S: Space>(
 ) -> Option<usize>
     requires count { count ≡ length (rows_in net.now.state.tree) }
     requires at { at ≤ length out.old }
+    requires line { length last.now ≤ LINE }
     ensures { Puts out.old at (rows_text 0 (rows_in net.now.state.tree) ++ last.now) result out.new }
 {
-    let room = out.len() - at;
-    let size = table_size(net, count, room)?;
-    if last.len() > room - size {
+    if !fits(net, count, last.len(), out.len() - at) {
         return None;
     }
     let end = put_rows(net, count, out, at);
