@@ -6,4 +6,4 @@ mod answering;
 mod running;
 
 pub use answering::NetCall;
-pub use running::{Made, guarantee, run};
+pub use running::{Made, guarantee, run, runs_keep};

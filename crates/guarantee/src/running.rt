@@ -2,6 +2,7 @@
 ghost use Rattle.std.specs.Prelude.{◌≡◌, ℕ, ◌≤◌, min, map, length, take, Result as Answered, slice_index_or};
 ghost use Rattle.net_laws.specs.Worlds.{joining as joiningWorld, wiring as wiringWorld};
 ghost use Rattle.net_laws.specs.declared.fault.Fault.{Fault as Refusal};
+ghost use Rattle.net_laws.specs.Guarantee.{RunsKeep};
 ghost use Rattle.guarantee.specs.Kept.{Kept, wired};
 
 use crate::answering::NetCall;
@@ -64,3 +65,9 @@ pub fn guarantee<W: Space, J: Joining>(
         joining: second,
     }
 }
+
+/// The guarantee as a law over runs: over every space that keeps the laws, after every run of calls on a new net. Whoever makes the calls one by one has it
+/// by their own contracts. The call does nothing.
+pub fn runs_keep()
+    ensures { RunsKeep }
+{}
