@@ -10,9 +10,8 @@ mod routing;
 mod table;
 
 use input::Arguments;
-use net::Net;
+use net::{Air, Lift, Net, Plane, Space};
 use routing::Route;
-use space::{Air, Lift, Plane, Space};
 use std::{env, io};
 
 fn main(rt: HostRuntime) -> anyhow::Result<()> {

@@ -1,6 +1,6 @@
 // Lines of the report: a name, and a figure or a refusal.
 use crate::refusal::Refusal;
-use net_laws::Fault;
+use net::Fault;
 use std::io;
 
 /// Prints a figure with its name.

@@ -1,9 +1,7 @@
 // Moves until none is left.
 ghost use Rattle.std.specs.Prelude.{◌≡◌, is_ok};
 
-use net::Net;
-use net_laws::Fault;
-use space::{Joining, Space};
+use net::{Fault, Joining, Net, Space};
 
 /// The most turns of refining. Each move saves 1 or more, so the moves run out, but in a wide space there may be more of them than this.
 pub const TURNS: u32 = 768 * 768;

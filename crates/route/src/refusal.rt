@@ -3,7 +3,7 @@ ghost use Rattle.std.specs.Prelude.{◌≡◌};
 ghost use Rattle.net_laws.specs.Faults.{layer_of};
 ghost use Rattle.route.specs.Letters.{letter_of};
 
-use net_laws::{Fault, Layer};
+use net::{Fault, Layer};
 use std::fmt;
 
 /// A refusal as its layer's letter, its number and its reason.

@@ -6,9 +6,7 @@ use crate::refining::{Refined, TURNS, hooks, hooks_and_shares};
 use crate::refusal::Refusal;
 use crate::table::{print_rows, wire};
 use input::Entry;
-use net::Net;
-use net_laws::{Fault, Worst};
-use space::{Joining, Space};
+use net::{Fault, Joining, Net, Space, Worst};
 use std::io;
 use walk::Allowance;
 

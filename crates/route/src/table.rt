@@ -1,14 +1,11 @@
 // The rows of a tree.
-use net::Net;
-use space::{Space, Spot};
+use net::{Net, Row, Space, Spot};
 use std::io;
-use tree::ROWS;
-use tree_laws::Row;
 
 /// The wire of the net's tree: the sum of its rows' lengths, 0 where there is no tree.
 // Kept: the calls of a net are a fixed list, in which rows are given by their numbers, so this and `print_rows` go over numbers.
 pub fn wire<S: Space>(net: &Net<S>) -> u64 {
-    (0..ROWS)
+    (0..net.rows().unwrap_or(0))
         .map_while(|k| net.row(k).ok())
         .fold(0, |wire: u64, row| wire.saturating_add(row.length))
 }
@@ -16,7 +13,10 @@ pub fn wire<S: Space>(net: &Net<S>) -> u64 {
 /// A heading, and a line for each row of the net's tree.
 pub fn print_rows<S: Space>(rt: &HostRuntime, net: &Net<S>) -> io::Result<()> {
     rt.println("    row  parent         x         y  level     length")?;
-    for (k, row) in (0..ROWS).map_while(|k| net.row(k).ok()).enumerate() {
+    for (k, row) in (0..net.rows().unwrap_or(0))
+        .map_while(|k| net.row(k).ok())
+        .enumerate()
+    {
         print_row(rt, k, row)?;
     }
     Ok(())
