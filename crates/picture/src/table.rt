@@ -1,10 +1,10 @@
 // A complete table of rows.
-ghost use Rattle.std.specs.Prelude.{◌≡◌, ◌↔◌, [], Some, All, IsTrue, MatchOption};
+ghost use Rattle.std.specs.Prelude.{◌≡◌, ◌↔◌, [], Some, IsTrue, MatchOption};
 ghost use Rattle.std.specs.Ordering.{nat_cmp};
 ghost use Rattle.std.specs.BTreeMap.{get, values};
 ghost use Rattle.std.specs.Option.{option_map};
 ghost use Rattle.picture.specs.Frame.{Holds, IsWithin};
-ghost use Rattle.picture.specs.Table.{IsAround};
+ghost use Rattle.picture.specs.Table.{IsAround, IsBoxOf};
 
 use crate::frame::Frame;
 use crate::net::Net;
@@ -20,9 +20,9 @@ pub struct Table {
 }
 
 impl Table {
-    /// A box that holds the spots of all rows; nothing where there are no rows.
+    /// The least box that holds the spots of all rows; nothing where there are no rows.
     pub fn frame(&self) -> Option<Frame>
-        ensures { MatchOption result (values self.now.rows ≡ []) (λ f. All (λ r. Holds f r.spot) (values self.now.rows)) }
+        ensures { MatchOption result (values self.now.rows ≡ []) (λ f. IsBoxOf f (values self.now.rows)) }
     {
         let mut frame = None;
         for row in self.rows.values() {
@@ -46,10 +46,11 @@ impl Table {
     }
 }
 
-/// The box that holds a spot beside all that a box holds already.
+/// The least box that holds a spot beside all that a box holds already.
 fn around(frame: Option<Frame>, spot: Spot) -> Frame
     ensures holds { Holds result spot }
     ensures keeps { IsAround frame result }
+    ensures least { (g : Frame) → IsAround frame g → Holds g spot → IsWithin result g }
 {
     match frame {
         Some(frame) => frame.with(spot),

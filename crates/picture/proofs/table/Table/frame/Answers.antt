@@ -8,7 +8,7 @@ use Rattle.picture.proofs.Boxes.{Boxed, boxed_push}
 use Rattle.picture.proofs.table.Table.frame.Goals as goal
 
 pub loop-row-preserved : goal.loop-row-preserved
-loop-row-preserved c = rw map_push (boxed_push _ _ _ _ c.loop-row.invariant c.around.ensures.holds c.around.ensures.keeps)
+loop-row-preserved c = rw map_push (boxed_push _ _ _ _ c.loop-row.invariant c.around.ensures.holds c.around.ensures.keeps c.around.ensures.least)
 
 pub returns : goal.returns
 returns c =
