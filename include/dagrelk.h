@@ -55,7 +55,8 @@ struct dagrelk_outcome {
  * Memory. A net takes 124,928 bytes from malloc (on x86-64), in 9 pieces. The call asks for them when line 1 is an accepted W, and gives them
  * back before it returns. Only that can fail for want of memory.
  *
- * Stack. A call takes less than 18 KiB, whatever the job (measured on x86-64: 17,656 bytes with the lazy binding of C functions).
+ * Stack. No call recurses. Four jobs, small and large, took 18,424 bytes each (measured on x86-64, with the lazy binding of C functions);
+ * plan 24 KiB.
  */
 struct dagrelk_outcome dagrelk_run(const uint8_t *job, size_t job_len, uint8_t *out, size_t out_len);
 
