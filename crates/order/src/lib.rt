@@ -1,9 +1,9 @@
-//! The first of several candidates, under an order without ties.
+//! What it is to be the first of several candidates, under an order without ties: definitions and lemmas.
 
 #![tactic(auto)]
 
 mod link;
-mod search;
+mod rank;
 
 pub use link::Link;
-pub use search::{Rank, first, first_found, first_of_pairs, first_until};
+pub use rank::Rank;

@@ -2,8 +2,7 @@
 ghost use Rattle.std.specs.Prelude.{◌≡◌, Some};
 ghost use Rattle.std.specs.Result.{result_ok};
 ghost use Rattle.space.specs.Lines.{Read, SpotLine};
-ghost use Rattle.space.specs.Shapes.{spot_at_level};
-ghost use Rattle.space.specs.Spots.{spot_of, spot_text};
+ghost use Rattle.space.specs.Spots.{spot_at_level, spot_of, spot_text};
 
 use std::error::Error;
 use std::fmt;

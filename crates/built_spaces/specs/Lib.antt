@@ -1,0 +1,4 @@
+pub mod Shapes
+pub mod Root
+pub mod Grid
+pub mod Lifted
