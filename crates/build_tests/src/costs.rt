@@ -1,12 +1,13 @@
 // How many meets joining asks for where the members lie on a ray from the driver. Entered from far to near, the meets of a member with all
 // lower ones are equally far.
 ghost use Rattle.std.specs.Prelude.{◌≡◌};
-ghost use Rattle.space.specs.Grid.{plane_meets, plane_metric};
-ghost use Rattle.space.specs.Shapes.{grid_between, grid_meeting, in_range};
+ghost use Rattle.built_spaces.specs.Grid.{plane_meets, plane_metric};
+ghost use Rattle.built_spaces.specs.Shapes.{grid_between, grid_meeting, in_range};
 
 use crate::spots::at;
 use joined::Joiner;
-use space::{Joining, Plane, Space, Spot};
+use built_spaces::Plane;
+use space::{Joining, Space, Spot};
 use std::alloc::Global;
 use std::cell::Cell;
 use std::process::Abort;

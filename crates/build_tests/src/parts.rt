@@ -2,7 +2,7 @@
 use crate::spots::at;
 use joined::Joiner;
 use seed::Seed;
-use space::Plane;
+use built_spaces::Plane;
 use std::process::Abort;
 use std::test::Fail;
 use straight::Builder;

@@ -1,7 +1,7 @@
 -- Each row of the table holds: both sides compute. Assumes nothing.
 use Rattle.std.proofs.Common.{refl}
 use Rattle.std.specs.List.{AllByRecursion}
-use Rattle.space.specs.Shapes.{root_from, root_above}
+use Rattle.built_spaces.specs.Shapes.{root_from, root_above}
 use Rattle.walk_laws.specs.Walk.{walk}
 use Rattle.cases.specs.Table.{Holds, table}
 use Rattle.cases.proofs.Square.{square_spans}

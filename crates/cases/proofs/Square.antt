@@ -7,7 +7,7 @@ use Rattle.seed.specs.declared.store.Refusal.{Refusal}
 use Rattle.seed.specs.declared.store.Refusal.TheVariants as refusal
 use Rattle.seed.specs.declared.store.Seed.{Seed}
 use Rattle.span.specs.Grown.{Grown}
-use Rattle.space.specs.contracts.plane.PlaneSpace.TheImpl as planeSpace
+use Rattle.built_spaces.specs.contracts.plane.PlaneSpace.TheImpl as planeSpace
 use Rattle.span.specs.Lengths.{Pinned, distance_of, spot_of}
 use Rattle.span.specs.Spanning.{Spanning, Steps}
 use Rattle.span.proofs.Checks.{every, every_at, first_by, pair_by}

@@ -6,7 +6,7 @@ use Rattle.forest.specs.Rooted.{Forest}
 use Rattle.forest.proofs.Accepted.{accepted}
 use Rattle.forest.proofs.Labelled.{joined_label}
 use Rattle.forest.proofs.Nearest.{grows_only}
-use Rattle.space.specs.contracts.plane.PlaneSpace.TheImpl as planeSpace
+use Rattle.built_spaces.specs.contracts.plane.PlaneSpace.TheImpl as planeSpace
 use Rattle.space.specs.declared.spot.Spot.{Spot}
 use Rattle.span.specs.Lengths.{distance_of}
 use Rattle.walk_laws.specs.Walk.{Mark, blank, start, walk}

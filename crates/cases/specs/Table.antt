@@ -10,15 +10,15 @@ use Rattle.seed.specs.declared.store.Refusal.{Refusal}
 use Rattle.seed.specs.declared.store.Seed.{Seed}
 use Rattle.space.specs.Laws.{answered, limit}
 use Rattle.space.specs.declared.Space.{Ghosts}
-use Rattle.space.specs.declared.air.Air.{Air}
-use Rattle.space.specs.declared.lift.Lift.{Lift}
-use Rattle.space.specs.declared.plane.Plane.{Plane}
+use Rattle.built_spaces.specs.declared.air.Air.{Air}
+use Rattle.built_spaces.specs.declared.lift.Lift.{Lift}
+use Rattle.built_spaces.specs.declared.plane.Plane.{Plane}
 use Rattle.space.specs.declared.spot.Spot.{Spot}
-use Rattle.space.specs.contracts.air.AirSpace.TheImpl as airSpace
-use Rattle.space.specs.contracts.lift.LiftSpace.TheImpl as liftSpace
-use Rattle.space.specs.contracts.plane.Plane as planeType
-use Rattle.space.specs.contracts.plane.PlaneJoining.TheImpl as planeJoining
-use Rattle.space.specs.contracts.plane.PlaneSpace.TheImpl as planeSpace
+use Rattle.built_spaces.specs.contracts.air.AirSpace.TheImpl as airSpace
+use Rattle.built_spaces.specs.contracts.lift.LiftSpace.TheImpl as liftSpace
+use Rattle.built_spaces.specs.contracts.plane.Plane as planeType
+use Rattle.built_spaces.specs.contracts.plane.PlaneJoining.TheImpl as planeJoining
+use Rattle.built_spaces.specs.contracts.plane.PlaneSpace.TheImpl as planeSpace
 use Rattle.span.specs.Grown.{Grown}
 use Rattle.span.specs.Lengths.{Pinned, distance_of}
 use Rattle.span.specs.Spanning.{Spanning}

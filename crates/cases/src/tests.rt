@@ -1,7 +1,8 @@
 // The calls behind the rows of the table, made.
 use super::worked_cases;
 use seed::Seed;
-use space::{Air, Joining, Lift, Plane, Space, Spot, spot_of};
+use built_spaces::{Air, Lift, Plane};
+use space::{Joining, Space, Spot, spot_of};
 use span::Spanner;
 use std::process::Abort;
 use std::test::Fail;

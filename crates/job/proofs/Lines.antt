@@ -8,11 +8,11 @@ use Rattle.net_laws.specs.States.{State, fresh}
 use Rattle.net_laws.specs.Worlds.{Keeps}
 use Rattle.net_laws.proofs.Keeping.{run_keeps}
 use Rattle.net.proofs.Owned.{own_meets}
-use Rattle.space.specs.Grid.{plane_meets, plane_metric}
-use Rattle.space.specs.Lifted.{lifted_meets, lifted_metric, narrow_sum}
-use Rattle.space.specs.Root.{air_metric}
+use Rattle.built_spaces.specs.Grid.{plane_meets, plane_metric}
+use Rattle.built_spaces.specs.Lifted.{lifted_meets, lifted_metric, narrow_sum}
+use Rattle.built_spaces.specs.Root.{air_metric}
 use Rattle.space.specs.Laws.{Metric, limit}
-use Rattle.space.specs.Shapes.{air_between, grid_between, grid_meeting, in_range, lift_admitted, lift_between, lift_width}
+use Rattle.built_spaces.specs.Shapes.{air_between, grid_between, grid_meeting, in_range, lift_admitted, lift_between, lift_width}
 use Rattle.request.specs.declared.requests.Word.{Word}
 use Rattle.request.specs.declared.requests.Word.TheVariants.{Plane, Air}
 use Rattle.request.specs.declared.requests.Request.{Request}

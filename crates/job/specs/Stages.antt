@@ -6,7 +6,7 @@ use Rattle.net_laws.specs.States.{State, fresh}
 use Rattle.net_laws.specs.Worlds.{Keeps}
 use Rattle.net_laws.specs.declared.call.JoinCall.{JoinCall}
 use Rattle.net_laws.specs.declared.call.JoinCall.TheVariants.{Wire, Joined, Share}
-use Rattle.space.specs.Shapes.{air_between, grid_between, grid_meeting, in_range, lift_admitted, lift_between, lift_meeting, lift_width}
+use Rattle.built_spaces.specs.Shapes.{air_between, grid_between, grid_meeting, in_range, lift_admitted, lift_between, lift_meeting, lift_width}
 use Rattle.request.specs.declared.requests.Request.{Request}
 use Rattle.request.specs.declared.requests.Request.TheVariants as asks
 use Rattle.request.specs.declared.requests.Word.{Word}

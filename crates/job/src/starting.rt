@@ -16,7 +16,8 @@ use net::Net;
 use net_laws::{Call, JoinCall};
 use reply::{Reply, last_line};
 use request::{Request, TextFault, Word, next_line, read};
-use space::{Air, Lift, Plane, Space};
+use built_spaces::{Air, Lift, Plane};
+use space::Space;
 use std::alloc::{AllocError, Global};
 use std::marker::PhantomData;
 

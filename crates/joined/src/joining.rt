@@ -6,7 +6,7 @@ ghost use Rattle.joined.specs.Joinings.{AllHang, Asked, Joinable, JoinedBy, Risi
 
 use crate::pair::Pair;
 use crate::partners::{Change, Group};
-use order::first;
+use search::first;
 use share::{hangs, part};
 use space::Joining;
 use std::alloc::{AllocError, Global};

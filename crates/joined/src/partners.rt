@@ -8,7 +8,7 @@ ghost use Rattle.joined.specs.Joinings.{Rising};
 ghost use Rattle.joined.specs.Pairs.{Again, Firsts, NoFarther, Partner, PartnerAt, Ready, Stale, pair_before, pair_of};
 
 use crate::pair::Pair;
-use order::first_until;
+use search::first_until;
 use share::join;
 use space::{Joining, LONGEST};
 use tree::{Table, reach};

@@ -10,7 +10,8 @@ mod seeds;
 use input::Arguments;
 use report::Report;
 use seeds::Tables;
-use space::{Air, Lift, Plane, Spot};
+use built_spaces::{Air, Lift, Plane};
+use space::Spot;
 use std::env;
 
 fn main(rt: HostRuntime) -> anyhow::Result<()> {

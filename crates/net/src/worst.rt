@@ -10,7 +10,7 @@ ghost use Rattle.net.specs.Sinks.{SinkAt};
 
 use crate::board::Built;
 use net_laws::Worst;
-use order::first_found;
+use search::first_found;
 use space::Space;
 use span::length_between;
 

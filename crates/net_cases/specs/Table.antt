@@ -2,16 +2,15 @@
 -- made on it. Assumes nothing.
 use Rattle.std.specs.Prelude.{ℕ, List, [], ◌∷◌, ◌++◌, map, pos, negsuc}
 use Rattle.space.specs.declared.spot.Spot.{Spot}
-use Rattle.space.specs.contracts.plane.PlaneJoining.TheImpl as planeJoining
-use Rattle.space.specs.contracts.plane.PlaneSpace.TheImpl as planeSpace
+use Rattle.built_spaces.specs.contracts.plane.PlaneJoining.TheImpl as planeJoining
+use Rattle.built_spaces.specs.contracts.plane.PlaneSpace.TheImpl as planeSpace
 use Rattle.tree_laws.specs.declared.Row.{Row}
 use Rattle.net_laws.specs.Answers.{World}
 use Rattle.net_laws.specs.States.{fresh}
 use Rattle.net_laws.specs.Worlds.{joining, wiring}
 use Rattle.net_laws.specs.declared.call.Call.TheVariants.{Pin, Span, Straight}
 use Rattle.net_laws.specs.declared.call.JoinCall.TheVariants.{Wire, Joined}
-use Rattle.cases.specs.Table.{Fact as Below, Holds as HoldsBelow, table as below}
-use Rattle.cases.specs.Table.{at, corner, fork, lift_ghosts, origin, over_plane, plane, square, square_seed}
+use Rattle.cases.specs.Table.{Fact as Below, Holds as HoldsBelow, table as below, at, corner, fork, lift_ghosts, origin, over_plane, plane, square, square_seed}
 use Rattle.net_cases.specs.Calls.{Ending, Follows, Step, answers, pins_from, refused, seed, seeded, step, tree}
 
 -- What plane, and a lift of that price over plane, mean to a net.

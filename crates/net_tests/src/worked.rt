@@ -4,7 +4,8 @@ use crate::refusals::check_standing;
 use guarantee::run;
 use net::Net;
 use net_laws::{Call, JoinCall};
-use space::{Lift, Plane, Space, Spot};
+use built_spaces::{Lift, Plane};
+use space::{Space, Spot};
 use std::process::Abort;
 use std::test::Fail;
 

@@ -6,7 +6,7 @@ ghost use Rattle.share.specs.Shares.{ShareAt, ShareMove, Shared, join_of, share_
 
 use crate::parting::{join, part};
 use crate::share::Share;
-use order::first_of_pairs;
+use search::first_of_pairs;
 use space::Joining;
 use tree::{Table, reach};
 

@@ -5,7 +5,7 @@ use Rattle.std.proofs.lemmas.Bool.{and_parts, and_from, leb-true, le-leb}
 use Rattle.std.proofs.lemmas.Bool.Decides.{nat_tests}
 use Rattle.space.specs.Laws.{Metric, Meets}
 use Rattle.space.specs.declared.spot.Spot.{Spot}
-use Rattle.space.specs.Grid.{apart_self, apart_swap, apart_by, apart_within, middle_first, middle_second, middle_within}
+use Rattle.built_spaces.specs.Grid.{apart_self, apart_swap, apart_by, apart_within, middle_first, middle_second, middle_within}
 use Rattle.space_tests.specs.Outside.{is_on_line, line_between, line_meeting, vast_between}
 
 across : (s : Spot) → is_on_line s ≡ true → unsigned_abs s.x ≤ 1000

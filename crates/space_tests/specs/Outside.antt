@@ -1,6 +1,6 @@
 -- The formulas of two spaces that are not built in: a line, and a space as vast as one likes. Assumes nothing.
 use Rattle.std.specs.Prelude.{ℕ, Bool, cond, ◌&&◌, pos, ◌==◌, nat_le, unsigned_abs}
-use Rattle.space.specs.Shapes.{apart, middle}
+use Rattle.built_spaces.specs.Shapes.{apart, middle}
 use Rattle.space.specs.declared.spot.Spot.{Spot}
 
 -- Level 0, with x from -1,000 to 1,000 and any y.

@@ -3,7 +3,8 @@ ghost use Rattle.std.specs.Prelude.{◌≡◌};
 ghost use Rattle.space_tests.specs.Outside.{is_on_line, line_between, line_meeting};
 ghost use Rattle.space_tests.specs.Laws.{line_metric, line_meets};
 
-use space::{Joining, Space, Spot, middle};
+use built_spaces::middle;
+use space::{Joining, Space, Spot};
 
 #[derive(Clone, Copy)]
 pub struct Line;

@@ -1,6 +1,7 @@
 use crate::line::Line;
 use crate::vast::Vast;
-use space::{Air, Joining, Lift, Plane, Space, Spot, spot_of};
+use built_spaces::{Air, Lift, Plane};
+use space::{Joining, Space, Spot, spot_of};
 use std::alloc::AllocError;
 use std::process::Abort;
 

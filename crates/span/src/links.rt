@@ -6,7 +6,8 @@ ghost use Rattle.span.specs.Measured.{lengths_of};
 ghost use Rattle.span.specs.Spanning.{better, elsewhere, fan, offered};
 
 use crate::pins::Pins;
-use order::{Link, first};
+use order::Link;
+use search::first;
 use seed::NODES;
 use space::Space;
 use std::alloc::{AllocError, Global};

@@ -5,7 +5,7 @@ ghost use Rattle.tree.specs.Tables.{Paths, rows_of};
 
 use crate::hook::Hook;
 use crate::table::{ROWS, Table};
-use order::first_of_pairs;
+use search::first_of_pairs;
 use space::{LONGEST, Space, Spot};
 
 /// The distance of two spots, at most `LONGEST`; 0 where there is none.
