@@ -1,14 +1,15 @@
-// The air: wires run straight from spot to spot. Air measures and has no meet.
 ghost use Rattle.std.specs.Prelude.{◌≡◌, true, ◌&&◌, IfSome};
 ghost use Rattle.space.specs.Laws.{answered};
 ghost use Rattle.built_spaces.specs.Shapes.{in_range, squares, air_between, root_above, LeastRoot};
 ghost use Rattle.built_spaces.specs.Root.{air_metric};
 
-use space::{Space, Spot};
 use crate::range::in_range;
+use space::{Space, Spot};
 
+/// What no distance exceeds: the least whole number not below the distance of two corners.
 const WIDEST: u64 = 2_828_428;
 
+/// The air: the spots of the plane; wires run straight from spot to spot. It measures and has no meet.
 #[derive(Clone, Copy)]
 pub struct Air;
 

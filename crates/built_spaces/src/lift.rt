@@ -1,4 +1,3 @@
-// A lift: a space in which a wire may also change level, at a price for each level. It stands over any wiring space.
 ghost use Rattle.std.specs.Prelude.{◌≡◌, ◌*◌, ◌&&◌, pos, int_le};
 ghost use Rattle.space.specs.Spots.{spot_at_level};
 ghost use Rattle.built_spaces.specs.Shapes.{apart, flat, middle as middle_of, lift_admitted, lift_width, lift_between, lift_meeting};
@@ -7,11 +6,16 @@ ghost use Rattle.built_spaces.specs.Lifted.{narrow_sum, narrow_below, lifted_met
 use crate::middle_one::middle;
 use space::{Joining, Space, Spot};
 
+/// The highest level.
 const TOP: i32 = 15;
 
+/// A lift over any wiring space: a wire may also change level, from 0 to 15, at a price for each level. Over a joining space it joins. Sums stop
+/// at the largest unsigned 64-bit number.
 #[derive(Clone, Copy, Drop)]
 pub struct Lift<S> {
+    /// The space of each level.
     pub below: S,
+    /// What one level costs.
     pub price: u32,
 }
 

@@ -1,4 +1,3 @@
-// The middle one of three numbers.
 ghost use Rattle.std.specs.Prelude.{◌≡◌};
 ghost use Rattle.built_spaces.specs.Shapes.{middle as middle_of, Middle};
 

@@ -1,4 +1,3 @@
-// The plane: wires run along x and along y.
 ghost use Rattle.std.specs.Prelude.{◌≡◌};
 ghost use Rattle.built_spaces.specs.Shapes.{in_range, grid_between, grid_meeting};
 ghost use Rattle.built_spaces.specs.Grid.{plane_metric, plane_meets};
@@ -7,8 +6,10 @@ use crate::middle_one::middle;
 use crate::range::in_range;
 use space::{Joining, Space, Spot};
 
+/// What no distance exceeds: across both sides.
 const WIDEST: u64 = 4_000_000;
 
+/// The plane: level 0, with x and y from -1,000,000 to 1,000,000; wires run along x and along y, and can be joined.
 #[derive(Clone, Copy)]
 pub struct Plane;
 

@@ -2,9 +2,9 @@
 ghost use Rattle.std.specs.Prelude.{◌≡◌};
 ghost use Rattle.built_spaces.specs.Shapes.{in_range};
 
-
 use space::Spot;
 
+/// The greatest |x| and |y| of a spot.
 const SIDE: u32 = 1_000_000;
 
 /// Whether the spot lies on level 0 with x and y from -1,000,000 to 1,000,000.

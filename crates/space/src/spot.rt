@@ -1,15 +1,14 @@
-// A place where a wire can begin, end or part.
 ghost use Rattle.std.specs.Prelude.{◌≡◌, Some};
 ghost use Rattle.std.specs.Result.{result_ok};
 ghost use Rattle.space.specs.Lines.{Read, SpotLine};
 ghost use Rattle.space.specs.Spots.{spot_at_level, spot_of, spot_text};
 
-use std::error::Error;
 use std::fmt;
 use std::num::ParseIntError;
 use std::str::FromStr;
+use thiserror::Error;
 
-/// The default is the origin: level 0, with x and y 0.
+/// A place where a wire can begin, end or part. As text it is `x,y,level`. The default is the origin: level 0, with x and y 0.
 #[derive(Clone, Copy, PartialEq, Eq, Debug, Default)]
 pub struct Spot {
     pub x: i32,
@@ -41,16 +40,9 @@ impl fmt::Display for Spot {
 }
 
 /// A text is no spot.
-#[derive(Clone, Copy, Debug, PartialEq, Eq)]
+#[derive(Clone, Copy, Debug, PartialEq, Eq, Error)]
+#[error("not three numbers of 32 bits")]
 pub struct ParseSpotError;
-
-impl fmt::Display for ParseSpotError {
-    fn fmt<W: fmt::Write>(&self, f: &mut fmt::Formatter<W>) -> fmt::Result {
-        write!(f, "not three numbers of 32 bits")
-    }
-}
-
-impl Error for ParseSpotError {}
 
 impl From<ParseIntError> for ParseSpotError {
     fn from(_error: ParseIntError) -> ParseSpotError {
