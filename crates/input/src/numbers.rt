@@ -1,8 +1,6 @@
-#![tactic(auto)]
-
 // The numbers of a price and of a ratio, as text.
 ghost use Rattle.space.specs.Lines.{Read};
-ghost use Rattle.spotlist.specs.Lines.{WritesNatural, Ratio};
+ghost use Rattle.input.specs.Numbers.{WritesNatural, Ratio};
 
 /// The number that the text writes, as a price is; nothing exactly when it writes no number in unsigned 32 bits.
 pub fn price(text: &str) -> Option<u32>

@@ -5,7 +5,7 @@ use Rattle.std.proofs.lemmas.Str.Pattern.{IsSplitOnceResult, split_after}
 use Rattle.std.proofs.lemmas.Option.{MatchOption-at_none}
 use Rattle.std.proofs.lemmas.Bool.{eqb-true}
 use Rattle.space.proofs.Cuts.{Parts, Free, Pieces, free_after, only}
-use Rattle.spotlist.specs.Lines.{WritesNatural, Ratio}
+use Rattle.input.specs.Numbers.{WritesNatural, Ratio}
 
 slash : Parts 47
 slash = record { plain = omega arith; low = omega arith; plus = λ e. omega arith; minus = λ e. omega arith }

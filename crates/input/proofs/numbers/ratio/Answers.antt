@@ -1,5 +1,5 @@
-use Rattle.spotlist.proofs.Cuts.{no_slash, ratio_over, ratio_under}
-use Rattle.spotlist.proofs.ratio.Goals as goal
+use Rattle.input.proofs.Cuts.{no_slash, ratio_over, ratio_under}
+use Rattle.input.proofs.numbers.ratio.Goals as goal
 
 pub returns-in_err-first : goal.returns-in_err-first
 returns-in_err-first c = rw c.from_residual.ensures (no_slash c.args.text.now _ c.split_once.ensures.cases c.in_err-first.was)
