@@ -3,9 +3,9 @@ use Rattle.std.specs.Prelude.{◌≡◌, ◌==◌, ℕ, ℤ, ◌^◌, ◌<◌, L
 use Rattle.std.specs.List.{after_first, before_first}
 use Rattle.std.specs.Str.Parse.{IsNumeral, without_leading_plus, digits_value}
 use Rattle.space.specs.Lines.{Read, Writes}
-use Rattle.picture.specs.declared.answer.Answer.{Answer}
-use Rattle.picture.specs.declared.answer.Answer.TheVariants as answer
-use Rattle.picture.specs.declared.row.Row.{Row}
+use Rattle.picture.specs.declared.answer.AnswerLine.{AnswerLine}
+use Rattle.picture.specs.declared.answer.AnswerLine.TheVariants as answer
+use Rattle.picture.specs.declared.row.DrawnRow.{DrawnRow}
 
 -- The bytes write the number n: one decimal digit or more, with or without a plus before them, in unsigned 64 bits.
 pub record WritesNumber (bs : List ℕ) (n : ℕ) : Type 0 where
@@ -26,7 +26,7 @@ pub record SignedFirst (bs : List ℕ) (z : ℤ) (rest : List ℕ) : Type 0 wher
   pub number : Writes first z
 
 -- The bytes write a row's number and the row, `number,parent,x,y,level,length`, and nothing else.
-pub record RowFields (bs : List ℕ) (n : ℕ) (r : Row) : Type 0 where
+pub record RowFields (bs : List ℕ) (n : ℕ) (r : DrawnRow) : Type 0 where
   pub after_number : List ℕ
   pub after_parent : List ℕ
   pub after_x : List ℕ
@@ -51,7 +51,7 @@ pub record After (word bs : List ℕ) (P : List ℕ → Type 0) : Type 0 where
   pub holds : P rest
 
 -- What a line of answers says: a row, an accepted call, or a refusal, of which only the word is read.
-abbrev pub Says : List ℕ → Answer → Type 0
+abbrev pub Says : List ℕ → AnswerLine → Type 0
 Says bs (answer.Row n r) = After (codes "N,") bs (λ rest. RowFields rest n r)
 Says bs (answer.Accepted l v) = After (codes "ok,") bs (λ rest. AcceptedFields rest l v)
 Says bs answer.Refused = After (codes "no,") bs (λ rest. Unit {0})

@@ -1,5 +1,5 @@
 use Rattle.picture.proofs.Words.{no_call, no_row}
-use Rattle.picture.proofs.answer.AnswerFromStr.from_str.Goals as goal
+use Rattle.picture.proofs.answer.AnswerLineFromStr.from_str.Goals as goal
 
 pub returns-in_default-row_of : goal.returns-in_default-row_of
 returns-in_default-row_of c = no_row c.args.text.now c.in-Some.rest.now c.in-Some.ensures c.in_default-row_of.ensures
