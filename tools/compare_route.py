@@ -113,6 +113,16 @@ def share(rows, d):
     return -best[0]
 
 
+def path(rows, k):
+    return sum(rows[i][2] for i in way(rows, k))
+
+
+def worst(rows, pins, d):
+    """The greatest of 1000 x path / direct distance over the sinks, and the lowest pin that has it."""
+    figure, k = min((-(1000 * path(rows, k) // d(pins[0], pins[k])), k) for k in range(1, len(pins)))
+    return -figure, k
+
+
 def route(kind, pins, price, p, q):
     """What `route` says of one space: its figures by their first word, and the rows."""
     d = measure(kind, price)
@@ -120,6 +130,7 @@ def route(kind, pins, price, p, q):
     rows, broken = straight(pins, d, edges, p, q)
     wire = lambda: sum(row[2] for row in rows)
     said = {'pins': len(pins), 'spanning': sum(e[2] for e in edges), 'straight': wire(), 'saved': 0, 'hooks': 0}
+    said.update({'on': sum(row[0] == 0 for row in rows[1:]), 'straight worst': worst(rows, pins, d)})
     if kind == 'plane':
         join(rows, broken, d)
         said.update(joined=wire(), shares=0)
@@ -132,8 +143,10 @@ def route(kind, pins, price, p, q):
             said['shares'] += shared > 0
         said['saved'] += saved + shared
         more = saved + shared > 0
-    worst = min((-(1000 * sum(rows[i][2] for i in way(rows, k)) // d(pins[0], pins[k])), k) for k in range(1, len(pins)))
-    said.update(refined=wire(), worst=(-worst[0], worst[1]))
+    said.update(refined=wire(), worst=worst(rows, pins, d))
+    said.update(reaches=[[d(pins[0], pins[k]), path(rows, k)] for k in range(len(pins))])
+    if kind == 'plane':
+        said.update(meets=['%d,%d,%d' % meet(pins[0], pins[k], pins[k + 1]) for k in range(1, len(pins) - 1)])
     return said, rows
 
 
@@ -142,11 +155,16 @@ def printed(text):
     spaces = []
     for words in (line.split() for line in text.split('\n')):
         if words[:2] == ['lift', 'over']:
-            spaces.append(({}, []))
+            spaces.append(({'reaches': [], 'meets': []}, []))
         elif spaces and words:
             said, rows = spaces[-1]
-            if words[0] == 'worst':
-                said['worst'] = int(words[2]), int(words[words.index('pin') + 1].strip(','))
+            if words[1] in ('worst', 'sink') and 'thousandths' in words:
+                name = 'worst' if words[0] == 'worst' else 'straight worst'
+                said[name] = int(words[2]), int(words[words.index('pin') + 1].strip(','))
+            elif words[0] == 'meet':
+                said['meets'].append(words[-1])
+            elif words[0].isdigit() and len(words) == 3:
+                said['reaches'].append([int(word) for word in words[1:]])
             elif words[0].isdigit() and len(words) == 6:
                 numbers = [int(word) for word in words[1:]]
                 rows.append([numbers[0], tuple(numbers[1:4]), numbers[4]])

@@ -1,6 +1,7 @@
 -- What the arguments of a program say. Assumes nothing.
-use Rattle.std.specs.Prelude.{◌≡◌, ℕ, ◌≤◌, ◌⊎◌, List, Some, None, Option}
-use Rattle.spotlist.specs.Lines.{Ratio, WritesNatural}
+use Rattle.std.specs.Prelude.{◌≡◌, ℕ, ◌⊎◌, List, Some, None, Option}
+use Rattle.walk.specs.Limits.{Within}
+use Rattle.input.specs.Numbers.{Ratio, WritesNatural}
 use Rattle.input.specs.declared.arguments.BadArgument.{BadArgument}
 use Rattle.input.specs.declared.arguments.BadArgument.TheVariants.{Allowance, Price}
 
@@ -14,13 +15,10 @@ abbrev pub Says : Option (List ℕ) → (p q : ℕ) → Type 0
 Says None p q = (p ≡ 1) × (q ≡ 4)
 Says (Some bs) p q = Ratio bs (p, q)
 
--- p is at most 1,000, and q is from 1 to 1,000.
-abbrev pub Lawful : (p q : ℕ) → Type 0
-Lawful p q = (p ≤ 1000) × (1 ≤ q) × (q ≤ 1000)
-
 -- The text writes no ratio, or one that is no allowance.
 abbrev pub Unlawful : Option (List ℕ) → Type 0
-Unlawful t = ((p q : ℕ) → Says t p q → ⊥) ⊎ ((p : ℕ) × (q : ℕ) × Says t p q × (Lawful p q → ⊥))
+Unlawful t =
+    ((p q : ℕ) → Says t p q → ⊥) ⊎ ((p : ℕ) × (q : ℕ) × Says t p q × (Within p q → ⊥))
 
 -- Why the texts are refused: the first writes no price; or it does, and the second says no allowance.
 abbrev pub Refuses : (price ratio : Option (List ℕ)) → BadArgument → Type 0

@@ -1,8 +1,9 @@
 ghost use Rattle.std.specs.Prelude.{ℕ, IfErr, IfOk, MatchOption, option_copied};
-ghost use Rattle.input.specs.Arguments.{Costs, Lawful, Refuses, Says, Unlawful};
+ghost use Rattle.walk.specs.Limits.{Within};
+ghost use Rattle.input.specs.Arguments.{Costs, Refuses, Says, Unlawful};
 
-use std::error::Error;
-use std::fmt;
+use crate::numbers;
+use thiserror::Error;
 use walk::Allowance;
 
 const DEFAULT_PRICE: u32 = 40;
@@ -10,25 +11,13 @@ const DEFAULT_PRICE: u32 = 40;
 const DEFAULT_RATIO: (u32, u32) = (1, 4);
 
 /// An argument that is not of its form.
-#[derive(Clone, Copy, Debug, PartialEq, Eq)]
+#[derive(Clone, Copy, Debug, PartialEq, Eq, Error)]
 pub enum BadArgument {
+    #[error("the price is not a number from 0 to 4294967295")]
     Price,
+    #[error("the allowance is not p/q with p from 0 to 1000 and q from 1 to 1000")]
     Allowance,
 }
-
-impl fmt::Display for BadArgument {
-    fn fmt<W: fmt::Write>(&self, f: &mut fmt::Formatter<W>) -> fmt::Result {
-        match self {
-            BadArgument::Price => write!(f, "the price is not a number from 0 to 4294967295"),
-            BadArgument::Allowance => write!(
-                f,
-                "the allowance is not p/q with p from 0 to 1000 and q from 1 to 1000"
-            ),
-        }
-    }
-}
-
-impl Error for BadArgument {}
 
 /// The price of a lift, 40 where none is given, and the allowance, 1/4 where none is given.
 #[derive(Clone, Copy)]
@@ -39,16 +28,20 @@ pub struct Arguments {
 
 /// The price that the text writes.
 fn price_of(text: Option<&str>) -> Option<u32>
-    ensures { MatchOption result ((n : ℕ) → Costs (option_copied text.entry) n → ⊥) (Costs (option_copied text.entry)) }
+    ensures { MatchOption result
+        ((n : ℕ) → Costs (option_copied text.entry) n → ⊥)
+        (Costs (option_copied text.entry)) }
 {
-    text.map_or(Some(DEFAULT_PRICE), spotlist::price)
+    text.map_or(Some(DEFAULT_PRICE), numbers::price)
 }
 
 /// The allowance that the text writes.
 fn allowance_of(text: Option<&str>) -> Option<Allowance>
-    ensures { MatchOption result (Unlawful (option_copied text.entry)) (λ a. Says (option_copied text.entry) a.p a.q × Lawful a.p a.q) }
+    ensures { MatchOption result
+        (Unlawful (option_copied text.entry))
+        (λ a. Says (option_copied text.entry) a.p a.q × Within a.p a.q) }
 {
-    let (p, q) = text.map_or(Some(DEFAULT_RATIO), spotlist::ratio)?;
+    let (p, q) = text.map_or(Some(DEFAULT_RATIO), numbers::ratio)?;
     Allowance::new(u64::from(p), u64::from(q))
 }
 
@@ -56,8 +49,11 @@ impl Arguments {
     /// The arguments that the two texts write; refused where one of them writes none, the price first.
     pub fn new(price: Option<&str>, ratio: Option<&str>) -> Result<Arguments, BadArgument>
         ensures price { IfOk result (λ a. Costs (option_copied price.entry) a.price) }
-        ensures allowance { IfOk result (λ a. Says (option_copied ratio.entry) a.allowance.p a.allowance.q × Lawful a.allowance.p a.allowance.q) }
-        ensures refused { IfErr result (Refuses (option_copied price.entry) (option_copied ratio.entry)) }
+        ensures allowance { IfOk result (λ a.
+            Says (option_copied ratio.entry) a.allowance.p a.allowance.q) }
+        ensures lawful { IfOk result (λ a. Within a.allowance.p a.allowance.q) }
+        ensures refused { IfErr result
+            (Refuses (option_copied price.entry) (option_copied ratio.entry)) }
     {
         let price = price_of(price).ok_or(BadArgument::Price)?;
         let allowance = allowance_of(ratio).ok_or(BadArgument::Allowance)?;

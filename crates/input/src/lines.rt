@@ -18,7 +18,6 @@ pub fn read(rt: &HostRuntime) -> io::Result<Vec<Entry>>
 {
     let mut entries = Vec::new(rt.alloc());
     let mut line: u64 = 0;
-    // Kept: an entry has its line as a `u64`, so `enumerate` would need the same sum and a cast.
     for text in rt.lines(rt.alloc()) {
         line = line.saturating_add(1);
         match spot_on(text)? {

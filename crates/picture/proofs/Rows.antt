@@ -7,8 +7,8 @@ use Rattle.std.proofs.lemmas.Option.{MatchOption-at_none}
 use Rattle.std.proofs.lemmas.Bool.{eqb-true}
 use Rattle.space.specs.Lines.{Writes}
 use Rattle.space.proofs.Cuts.{Free, Parts, Pieces, free_after, only}
-use Rattle.picture.specs.declared.row.Row.{Row}
-use Rattle.picture.specs.Answer.{NumberFirst, RowFields, SignedFirst, WritesNumber}
+use Rattle.picture.specs.declared.row.DrawnRow.{DrawnRow}
+use Rattle.picture.specs.AnswerLine.{NumberFirst, RowFields, SignedFirst, WritesNumber}
 
 comma : Parts 44
 comma = record { plain = omega arith; low = omega arith; plus = λ e. omega arith; minus = λ e. omega arith }
@@ -68,7 +68,7 @@ module _ (bs : List ℕ) (r : Pieces) (f g : Bor (List ℕ)) (h : IsSplitOnceRes
   first_signed z rest l = subst (λ (t : List ℕ). Writes t z) (only 44 comma bs r f g h e l.first rest l.parted (number_free _ _ l.number)).0 l.number
 
 -- what is cut off a row's line are its fields, one after the other
-module _ (bs : List ℕ) (n : ℕ) (r : Row) (l : RowFields bs n r) (m : ℕ) (a : List ℕ) (cut : NumberFirst bs m a) where
+module _ (bs : List ℕ) (n : ℕ) (r : DrawnRow) (l : RowFields bs n r) (m : ℕ) (a : List ℕ) (cut : NumberFirst bs m a) where
   pub second : NumberFirst a r.parent l.after_parent
   second = subst (λ (t : List ℕ). NumberFirst t r.parent l.after_parent) (number_rest bs _ _ _ _ l.number cut) l.parent
 

@@ -3,15 +3,15 @@ use Rattle.std.specs.Prelude.{ℕ, ◌+◌, min, if◌then◌else◌, nat_eq, na
 use Rattle.picture.specs.declared.counts.Counts.{Counts}
 use Rattle.picture.specs.declared.counts.Kind.{Kind}
 use Rattle.picture.specs.declared.counts.Kind.TheVariants as kind
-use Rattle.picture.specs.declared.job.Call.{Call}
-use Rattle.picture.specs.declared.job.Call.TheVariants.{Net, Pin, Steiner, Seed, Change, Worst, Table, Other}
+use Rattle.picture.specs.declared.job.JobLine.{JobLine}
+use Rattle.picture.specs.declared.job.JobLine.TheVariants.{Net, Pin, Steiner, Seed, Change, Worst, Table, Other}
 
 -- One more, as far as 64 bits go.
 abbrev pub one_more : ℕ → ℕ
 one_more n = min (n + 1) 18446744073709551615
 
 -- The counts after an accepted call: a pin drops the Steiner points, and so does a new seed.
-abbrev pub counts_after : Call → Counts → Counts
+abbrev pub counts_after : JobLine → Counts → Counts
 counts_after (Net _) c = record { pins = 0; points = 0 }
 counts_after Pin c = record { pins = one_more c.pins; points = 0 }
 counts_after Steiner c = record { pins = c.pins; points = one_more c.points }

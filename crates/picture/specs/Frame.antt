@@ -4,6 +4,7 @@ use Rattle.picture.specs.Distances.{apart}
 use Rattle.space.specs.declared.spot.Spot.{Spot}
 use Rattle.picture.specs.declared.frame.Frame.{Frame}
 use Rattle.picture.specs.declared.frame.Place.{Place}
+use Rattle.picture.specs.declared.frame.TheConstants.{MARGIN, SIDE}
 
 -- The box holds the spot.
 pub record Holds (f : Frame) (s : Spot) : Type 0 where
@@ -19,25 +20,25 @@ pub record IsWithin (f g : Frame) : Type 0 where
   pub bottom : g.bottom ≤ℤ f.bottom
   pub top : f.top ≤ℤ g.top
 
--- The longer side of the box, and at least 1: it is 10,000 long on the sheet.
+-- The longer side of the box, and at least 1: it is SIDE long on the sheet.
 abbrev pub span_of : Frame → ℕ
 span_of f = max (max (apart f.left f.right) (apart f.bottom f.top)) 1
 
 -- A distance on the sheet.
 abbrev pub scaled_of : Frame → ℕ → ℕ
-scaled_of f d = d * 10000 / span_of f
+scaled_of f d = d * SIDE / span_of f
 
--- The lower right corner of the sheet, with a margin of 600 on each side.
+-- The lower right corner of the sheet, with a margin on each side.
 abbrev pub corner_of : Frame → Place
-corner_of f = record { x = 1200 + scaled_of f (apart f.left f.right); y = 1200 + scaled_of f (apart f.bottom f.top) }
+corner_of f = record { x = 2 * MARGIN + scaled_of f (apart f.left f.right); y = 2 * MARGIN + scaled_of f (apart f.bottom f.top) }
 
 -- The place of a spot: x from the left side of the box, y down from its upper side.
 abbrev pub place_of : Frame → Spot → Place
-place_of f s = record { x = 600 + scaled_of f (apart f.left s.x); y = 600 + scaled_of f (apart s.y f.top) }
+place_of f s = record { x = MARGIN + scaled_of f (apart f.left s.x); y = MARGIN + scaled_of f (apart s.y f.top) }
 
 -- A place within the margins of the sheet.
 pub record IsOnSheet (f : Frame) (p : Place) : Type 0 where
-  pub left : 600 ≤ p.x
-  pub right : p.x + 600 ≤ (corner_of f).x
-  pub upper : 600 ≤ p.y
-  pub lower : p.y + 600 ≤ (corner_of f).y
+  pub left : MARGIN ≤ p.x
+  pub right : p.x + MARGIN ≤ (corner_of f).x
+  pub upper : MARGIN ≤ p.y
+  pub lower : p.y + MARGIN ≤ (corner_of f).y

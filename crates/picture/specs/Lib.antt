@@ -1,8 +1,8 @@
-pub mod Answer
+pub mod AnswerLine
 pub mod Counts
 pub mod Distances
+pub mod DrawnTable
 pub mod Frame
-pub mod Job
-pub mod Net
+pub mod JobLine
+pub mod KnownNet
 pub mod Reading
-pub mod Table

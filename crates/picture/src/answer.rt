@@ -3,37 +3,29 @@ ghost use Rattle.std.specs.Prelude.{◌≡◌, ◌≢◌, ◌==◌, ◌++◌, �
 ghost use Rattle.std.specs.List.{after_first, before_first};
 ghost use Rattle.std.specs.Result.{result_ok};
 ghost use Rattle.space.specs.Lines.{Read, Writes};
-ghost use Rattle.picture.specs.declared.row.Row.{Row};
-ghost use Rattle.picture.specs.Answer.{AcceptedFields, NumberFirst, RowFields, Says, SignedFirst, WritesNumber};
+ghost use Rattle.picture.specs.declared.row.DrawnRow.{DrawnRow};
+ghost use Rattle.picture.specs.AnswerLine.{AcceptedFields, NumberFirst, RowFields, Says, SignedFirst, WritesNumber};
 
-use crate::row::Row;
+use crate::row::DrawnRow;
 use space::Spot;
-use std::error::Error;
-use std::fmt;
 use std::str::FromStr;
+use thiserror::Error;
 
 /// A line of answers.
 #[derive(Clone, Copy, Debug, PartialEq, Eq)]
-pub enum Answer {
+pub enum AnswerLine {
     /// The call on this line of the job was accepted, with its first value where it has one.
     Accepted { line: u64, value: Option<u64> },
     /// A call was refused.
     Refused,
     /// A row of the tree, with its number.
-    Row { number: u64, row: Row },
+    Row { number: u64, row: DrawnRow },
 }
 
-/// A text is no answer.
-#[derive(Clone, Copy, Debug, PartialEq, Eq)]
-pub struct ParseAnswerError;
-
-impl fmt::Display for ParseAnswerError {
-    fn fmt<W: fmt::Write>(&self, f: &mut fmt::Formatter<W>) -> fmt::Result {
-        write!(f, "no answer and no row of seven fields")
-    }
-}
-
-impl Error for ParseAnswerError {}
+/// A text is no line of answers.
+#[derive(Clone, Copy, Debug, PartialEq, Eq, Error)]
+#[error("no answer and no row of seven fields")]
+pub struct ParseAnswerLineError;
 
 /// The number that a text writes.
 fn number_of(text: &str) -> Option<u64>
@@ -44,7 +36,9 @@ fn number_of(text: &str) -> Option<u64>
 
 /// The number before the first comma of a text, and what is after the comma.
 fn number_first(text: &str) -> Option<(u64, &str)>
-    ensures { MatchOption result ((n : ℕ) (rest : List ℕ) → NumberFirst text.now n rest → ⊥) (λ p. NumberFirst text.now p.0 p.1.now) }
+    ensures { MatchOption result
+        ((n : ℕ) (rest : List ℕ) → NumberFirst text.now n rest → ⊥)
+        (λ p. NumberFirst text.now p.0 p.1.now) }
 {
     let (first, rest) = text.split_once(',')?;
     let number = number_of(first)?;
@@ -53,7 +47,9 @@ fn number_first(text: &str) -> Option<(u64, &str)>
 
 /// The same for a number that may have a minus before it.
 fn signed_first(text: &str) -> Option<(i32, &str)>
-    ensures { MatchOption result ((z : ℤ) (rest : List ℕ) → SignedFirst text.now z rest → ⊥) (λ p. SignedFirst text.now p.0 p.1.now) }
+    ensures { MatchOption result
+        ((z : ℤ) (rest : List ℕ) → SignedFirst text.now z rest → ⊥)
+        (λ p. SignedFirst text.now p.0 p.1.now) }
 {
     let (first, rest) = text.split_once(',')?;
     let number = signed_of(first)?;
@@ -68,8 +64,10 @@ fn signed_of(text: &str) -> Option<i32>
 }
 
 /// The row that stands after `N,`, with its number.
-fn row_of(text: &str) -> Option<(u64, Row)>
-    ensures { MatchOption result ((n : ℕ) (r : Row) → RowFields text.now n r → ⊥) (λ p. RowFields text.now p.0 p.1) }
+fn row_of(text: &str) -> Option<(u64, DrawnRow)>
+    ensures { MatchOption result
+        ((n : ℕ) (r : DrawnRow) → RowFields text.now n r → ⊥)
+        (λ p. RowFields text.now p.0 p.1) }
 {
     let (number, after_number) = number_first(text)?;
     let (parent, after_parent) = number_first(after_number)?;
@@ -80,7 +78,7 @@ fn row_of(text: &str) -> Option<(u64, Row)>
     let spot = Spot { x, y, level };
     Some((
         number,
-        Row {
+        DrawnRow {
             parent,
             spot,
             length,
@@ -101,7 +99,9 @@ fn cut(text: &str) -> (&str, &str)
 
 /// The line of the job and the first value that stand after `ok,`.
 fn accepted_of(text: &str) -> Option<(u64, Option<u64>)>
-    ensures { MatchOption result ((n : ℕ) (v : Option ℕ) → AcceptedFields text.now n v → ⊥) (λ p. AcceptedFields text.now p.0 p.1) }
+    ensures { MatchOption result
+        ((n : ℕ) (v : Option ℕ) → AcceptedFields text.now n v → ⊥)
+        (λ p. AcceptedFields text.now p.0 p.1) }
 {
     let (line, values) = cut(text);
     let line = number_of(line)?;
@@ -111,33 +111,35 @@ fn accepted_of(text: &str) -> Option<(u64, Option<u64>)>
 
 /// What stands in a text after a word at its front.
 fn after<'a>(text: &'a str, word: &str) -> Option<&'a str>
-    ensures { MatchOption result ((rest : List ℕ) → text.now ≢ word.now ++ rest) (λ x. text.now ≡ word.now ++ x.now) }
+    ensures { MatchOption result
+        ((rest : List ℕ) → text.now ≢ word.now ++ rest)
+        (λ x. text.now ≡ word.now ++ x.now) }
 {
     text.strip_prefix(word)
 }
 
 // A line of answers; an error exactly where the text is none.
-impl FromStr for Answer {
-    type Err = ParseAnswerError;
+impl FromStr for AnswerLine {
+    type Err = ParseAnswerLineError;
 
     ghost from_str_gives = { λ text answer. Read Says text (result_ok answer) };
 
-    fn from_str(text: &str) -> Result<Answer, ParseAnswerError> {
+    fn from_str(text: &str) -> Result<AnswerLine, ParseAnswerLineError> {
         if let Some(rest) = after(text, "N,") {
             let Some((number, row)) = row_of(rest) else {
-                return Err(ParseAnswerError);
+                return Err(ParseAnswerLineError);
             };
-            return Ok(Answer::Row { number, row });
+            return Ok(AnswerLine::Row { number, row });
         }
         if let Some(rest) = after(text, "ok,") {
             let Some((line, value)) = accepted_of(rest) else {
-                return Err(ParseAnswerError);
+                return Err(ParseAnswerLineError);
             };
-            return Ok(Answer::Accepted { line, value });
+            return Ok(AnswerLine::Accepted { line, value });
         }
         match after(text, "no,") {
-            Some(_) => Ok(Answer::Refused),
-            None => Err(ParseAnswerError),
+            Some(_) => Ok(AnswerLine::Refused),
+            None => Err(ParseAnswerLineError),
         }
     }
 }

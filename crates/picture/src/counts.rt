@@ -2,7 +2,7 @@
 ghost use Rattle.std.specs.Prelude.{◌≡◌};
 ghost use Rattle.picture.specs.Counts.{counts_after, kind_of};
 
-use crate::job::Call;
+use crate::job::JobLine;
 
 /// How many pins a net has, and how many Steiner points.
 #[derive(Clone, Copy, Debug, Default, PartialEq, Eq)]
@@ -23,22 +23,22 @@ pub enum Kind {
 
 impl Counts {
     /// The counts after a call that was accepted.
-    pub fn after(self, call: Call) -> Counts
+    pub fn after(self, call: JobLine) -> Counts
         ensures { result ≡ counts_after call self }
     {
         let Counts { pins, points } = self;
         match call {
-            Call::Net(_) => Counts { pins: 0, points: 0 },
-            Call::Pin => Counts {
+            JobLine::Net(_) => Counts { pins: 0, points: 0 },
+            JobLine::Pin => Counts {
                 pins: pins.saturating_add(1),
                 points: 0,
             },
-            Call::Steiner => Counts {
+            JobLine::Steiner => Counts {
                 pins,
                 points: points.saturating_add(1),
             },
-            Call::Seed => Counts { pins, points: 0 },
-            Call::Change | Call::Worst | Call::Table | Call::Other => self,
+            JobLine::Seed => Counts { pins, points: 0 },
+            JobLine::Change | JobLine::Worst | JobLine::Table | JobLine::Other => self,
         }
     }
 

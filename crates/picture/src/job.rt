@@ -1,22 +1,22 @@
-// The calls of a job.
+// What the lines of a job ask.
 ghost use Rattle.std.specs.Prelude.{◌≡◌, ◌==◌, map, IfOk};
 ghost use Rattle.std.specs.List.{slice_split};
-ghost use Rattle.picture.specs.Job.{call_of, call_on_line, letter_call, space_of};
+ghost use Rattle.picture.specs.JobLine.{job_line_of, job_line_on, letter_line, space_of};
 
 use std::alloc::{AllocError, Global};
 
-/// The space of a net, which says how its wires are drawn: square over plane, also under a lift; straight through air.
+/// The space that a W line names, as far as wires are drawn by it: square over plane, also under a lift; straight through air.
 #[derive(Clone, Copy, Debug, PartialEq, Eq)]
-pub enum Space {
+pub enum SpaceWord {
     Plane,
     Air,
 }
 
 /// What a line of a job asks, as far as a picture depends on it.
 #[derive(Clone, Copy, Debug, PartialEq, Eq)]
-pub enum Call {
+pub enum JobLine {
     /// A new net in a space, letter W.
-    Net(Space),
+    Net(SpaceWord),
     /// A pin, letter P.
     Pin,
     /// A Steiner point, letter V.
@@ -33,63 +33,63 @@ pub enum Call {
     Other,
 }
 
-impl Space {
+impl SpaceWord {
     /// The space that stands after the letter W; plane where it is not air.
-    pub fn of(word: &[u8]) -> Space
+    pub fn of(word: &[u8]) -> SpaceWord
         ensures { result ≡ space_of word.now }
     {
         if word.starts_with(b",air") {
-            Space::Air
+            SpaceWord::Air
         } else {
-            Space::Plane
+            SpaceWord::Plane
         }
     }
 }
 
-impl Call {
-    /// The call on a line of a job; its first byte decides.
-    pub fn of(line: &[u8]) -> Call
-        ensures { result ≡ call_of line.now }
+impl JobLine {
+    /// What a line of a job asks; its first byte decides.
+    pub fn of(line: &[u8]) -> JobLine
+        ensures { result ≡ job_line_of line.now }
     {
         match line.split_first() {
-            Some((letter, word)) => Call::of_letter(*letter, word),
-            None => Call::Other,
+            Some((letter, word)) => JobLine::of_letter(*letter, word),
+            None => JobLine::Other,
         }
     }
 
-    /// The call of a letter with what stands after it.
-    fn of_letter(letter: u8, word: &[u8]) -> Call
-        ensures { result ≡ letter_call letter word.now }
+    /// What a letter asks with what stands after it.
+    fn of_letter(letter: u8, word: &[u8]) -> JobLine
+        ensures { result ≡ letter_line letter word.now }
     {
         match letter {
-            b'W' => Call::Net(Space::of(word)),
-            b'P' => Call::Pin,
-            b'V' => Call::Steiner,
-            b'U' | b'M' => Call::Seed,
-            b'A' | b'E' | b'D' | b'J' | b'H' | b'S' => Call::Change,
-            b'X' => Call::Worst,
-            b'T' => Call::Table,
-            _ => Call::Other,
+            b'W' => JobLine::Net(SpaceWord::of(word)),
+            b'P' => JobLine::Pin,
+            b'V' => JobLine::Steiner,
+            b'U' | b'M' => JobLine::Seed,
+            b'A' | b'E' | b'D' | b'J' | b'H' | b'S' => JobLine::Change,
+            b'X' => JobLine::Worst,
+            b'T' => JobLine::Table,
+            _ => JobLine::Other,
         }
     }
 }
 
-/// The calls of a job, one for each line. The last line may lack its end; where it has one, a call of no kind follows it.
-pub fn calls(alloc: Global, job: &[u8]) -> Result<Vec<Call>, AllocError>
-    ensures { IfOk result (λ v. v.items ≡ map call_of (slice_split (λ b. b == 10) job.now)) }
+/// What the lines of a job ask, in their order. The last line may lack its end; where it has one, a line `Other` follows it.
+pub fn job_lines(alloc: Global, job: &[u8]) -> Result<Vec<JobLine>, AllocError>
+    ensures { IfOk result (λ v. v.items ≡ map job_line_of (slice_split (λ b. b == 10) job.now)) }
 {
-    job.split(|b| *b == b'\n').map(Call::of).collect(alloc)
+    job.split(|b| *b == b'\n').map(JobLine::of).collect(alloc)
 }
 
-/// The call on a line of the job, where lines count from 1; a call of no kind where there is no such line.
-pub fn call_at(calls: &[Call], line: u64) -> Call
-    ensures { result ≡ call_on_line calls.now line }
+/// What is asked on a line of the job, where lines count from 1; `Other` where there is no such line.
+pub fn job_line_at(lines: &[JobLine], line: u64) -> JobLine
+    ensures { result ≡ job_line_on lines.now line }
 {
     let Some(k) = line.checked_sub(1) else {
-        return Call::Other;
+        return JobLine::Other;
     };
     match usize::try_from(k) {
-        Ok(k) => calls.get(k).copied().unwrap_or(Call::Other),
-        Err(_) => Call::Other,
+        Ok(k) => lines.get(k).copied().unwrap_or(JobLine::Other),
+        Err(_) => JobLine::Other,
     }
 }

@@ -13,12 +13,12 @@ mod shapes;
 mod sheet;
 mod table;
 
-pub use answer::{Answer, ParseAnswerError};
+pub use answer::{AnswerLine, ParseAnswerLineError};
 pub use counts::{Counts, Kind};
 pub use frame::{Frame, MARGIN, Place, SIDE};
-pub use job::{Call, Space, call_at, calls};
-pub use net::Net;
+pub use job::{JobLine, SpaceWord, job_line_at, job_lines};
+pub use net::KnownNet;
 pub use reading::Reading;
-pub use row::Row;
+pub use row::DrawnRow;
 pub use sheet::Picture;
-pub use table::Table;
+pub use table::DrawnTable;

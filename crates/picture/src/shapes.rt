@@ -1,8 +1,8 @@
 // The shapes of a picture.
 use crate::counts::Kind;
 use crate::frame::Place;
-use crate::job::Space;
-use crate::row::Row;
+use crate::job::SpaceWord;
+use crate::row::DrawnRow;
 use std::fmt;
 
 /// Colours of wires by level, for levels 0 to 15.
@@ -21,14 +21,14 @@ pub const PAPER: &str = "#ffffff";
 #[derive(Clone, Copy)]
 pub struct Title {
     pub number: u64,
-    pub row: Row,
+    pub row: DrawnRow,
 }
 
 /// A wire from a parent's place to a row's.
 #[derive(Clone, Copy)]
 pub struct Wire {
     pub title: Title,
-    pub space: Space,
+    pub space: SpaceWord,
     pub from: Place,
     pub to: Place,
 }
@@ -59,7 +59,7 @@ fn colour(level: i32) -> &'static str {
 impl fmt::Display for Title {
     fn fmt<W: fmt::Write>(&self, f: &mut fmt::Formatter<W>) -> fmt::Result {
         let number = self.number;
-        let Row {
+        let DrawnRow {
             parent,
             spot,
             length,
@@ -78,11 +78,11 @@ impl fmt::Display for Wire {
         let Place { x, y } = self.from;
         let Place { x: to_x, y: to_y } = self.to;
         match self.space {
-            Space::Plane => writeln!(
+            SpaceWord::Plane => writeln!(
                 f,
                 "<path d=\"M{x} {y}H{to_x}V{to_y}\" stroke=\"{stroke}\">{title}</path>"
             ),
-            Space::Air => writeln!(
+            SpaceWord::Air => writeln!(
                 f,
                 "<path d=\"M{x} {y}L{to_x} {to_y}\" stroke=\"{stroke}\">{title}</path>"
             ),

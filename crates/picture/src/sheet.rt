@@ -6,19 +6,19 @@ ghost use Rattle.picture.specs.Frame.{IsOnSheet};
 
 use crate::counts::Kind;
 use crate::frame::{Frame, Place};
-use crate::row::Row;
+use crate::row::DrawnRow;
 use crate::shapes::{Mark, PAPER, Ring, Title, Wire};
-use crate::table::Table;
+use crate::table::DrawnTable;
 use std::fmt;
 
 /// A picture in SVG: the wires and the rows of a table; a picture of nothing where there is no table or no row.
 #[derive(Clone, Copy)]
-pub struct Picture<'a>(pub Option<&'a Table>);
+pub struct Picture<'a>(pub Option<&'a DrawnTable>);
 
 /// A table on a sheet.
 #[derive(Clone, Copy)]
 struct Sheet<'a> {
-    table: &'a Table,
+    table: &'a DrawnTable,
     frame: Frame,
 }
 
@@ -31,7 +31,7 @@ struct Ends {
 
 impl<'a> Sheet<'a> {
     /// Where a row's wire begins and ends; nothing where the table has no row for its parent.
-    fn ends(&self, row: Row) -> Option<Ends>
+    fn ends(&self, row: DrawnRow) -> Option<Ends>
         ensures parent { IsSome result ↔ IsSome (get nat_cmp self.now.table.now.rows row.parent) }
         ensures inside { IfSome result (λ e. IsOnSheet self.now.frame e.from × IsOnSheet self.now.frame e.to) }
     {
@@ -138,17 +138,17 @@ impl<'a> fmt::Display for Picture<'a> {
 #[cfg(test)]
 mod tests {
     use super::*;
-    use crate::answer::Answer;
-    use crate::job::{Call, Space};
+    use crate::answer::AnswerLine;
+    use crate::job::{JobLine, SpaceWord};
     use crate::reading::Reading;
     use std::test::Fail;
 
     /// Reads a line of answers; an accepted call is `call`.
-    fn read(reading: &mut Reading, call: Call, line: &str) -> Result<(), Fail> {
-        match line.parse::<Answer>()? {
-            Answer::Row { number, row } => reading.row(number, row)?,
-            Answer::Refused => reading.refused(),
-            Answer::Accepted { value, .. } => reading.accepted(call, value)?,
+    fn read(reading: &mut Reading, call: JobLine, line: &str) -> Result<(), Fail> {
+        match line.parse::<AnswerLine>()? {
+            AnswerLine::Row { number, row } => reading.row(number, row)?,
+            AnswerLine::Refused => reading.refused(),
+            AnswerLine::Accepted { value, .. } => reading.accepted(call, value)?,
         }
         Ok(())
     }
@@ -156,12 +156,12 @@ mod tests {
     #[test]
     fn draws_the_rows_that_have_a_parent(rt: HostRuntime) -> Result<(), Fail> {
         let mut reading = Reading::new(rt.alloc());
-        read(&mut reading, Call::Net(Space::Air), "ok,1,0")?;
-        read(&mut reading, Call::Other, "N,0,0,-5,0,0,0")?;
-        read(&mut reading, Call::Other, "N,1,0,5,4,1,11")?;
-        read(&mut reading, Call::Other, "N,2,7,0,2,0,3")?;
-        read(&mut reading, Call::Table, "ok,2,3")?;
-        read(&mut reading, Call::Other, "N,0,0,9,9,0,0")?;
+        read(&mut reading, JobLine::Net(SpaceWord::Air), "ok,1,0")?;
+        read(&mut reading, JobLine::Other, "N,0,0,-5,0,0,0")?;
+        read(&mut reading, JobLine::Other, "N,1,0,5,4,1,11")?;
+        read(&mut reading, JobLine::Other, "N,2,7,0,2,0,3")?;
+        read(&mut reading, JobLine::Table, "ok,2,3")?;
+        read(&mut reading, JobLine::Other, "N,0,0,9,9,0,0")?;
         let picture = Picture(reading.table.as_ref());
         let text = format!(in rt.alloc(); "{picture}")?;
         assert!(rt; text.contains("viewBox=\"0 0 11200 5200\""));

@@ -4,22 +4,22 @@ ghost use Rattle.std.specs.Ordering.{nat_cmp};
 ghost use Rattle.std.specs.BTreeMap.{get, values};
 ghost use Rattle.std.specs.Option.{option_map};
 ghost use Rattle.picture.specs.Frame.{Holds, IsWithin};
-ghost use Rattle.picture.specs.Table.{IsAround, IsBoxOf};
+ghost use Rattle.picture.specs.DrawnTable.{IsAround, IsBoxOf};
 
 use crate::frame::Frame;
-use crate::net::Net;
-use crate::row::Row;
+use crate::net::KnownNet;
+use crate::row::DrawnRow;
 use space::Spot;
 use std::collections::BTreeMap;
 
 /// A complete table: the rows of a tree by their numbers, and the net whose tree it is.
 #[derive(Drop)]
-pub struct Table {
-    pub rows: BTreeMap<u64, Row>,
-    pub net: Net,
+pub struct DrawnTable {
+    pub rows: BTreeMap<u64, DrawnRow>,
+    pub net: KnownNet,
 }
 
-impl Table {
+impl DrawnTable {
     /// The least box that holds the spots of all rows; nothing where there are no rows.
     pub fn frame(&self) -> Option<Frame>
         ensures { MatchOption result (values self.now.rows ≡ []) (λ f. IsBoxOf f (values self.now.rows)) }
@@ -32,7 +32,7 @@ impl Table {
     }
 
     /// The spot of a row's parent; nothing where the table has no such row.
-    pub fn parent(&self, row: Row) -> Option<Spot>
+    pub fn parent(&self, row: DrawnRow) -> Option<Spot>
         ensures { result ≡ option_map (λ r. r.spot) (get nat_cmp self.now.rows row.parent) }
     {
         self.rows.get(&row.parent).map(|parent| parent.spot)

@@ -18,13 +18,11 @@ pub struct Made {
 pub struct Refined {
     pub hooks: Made,
     pub shares: Made,
-    // Kept: a plain yes or no, with no value beside it.
     pub refused: bool,
 }
 
 impl Made {
     /// Counts a move where it was made, and answers whether it was.
-    // Kept: a plain yes or no, which the turns ask; the saving has gone into the count.
     fn count(&mut self, answer: Result<u64, Fault>) -> bool
         ensures { result ≡ is_ok answer }
     {

@@ -11,7 +11,6 @@ use std::fmt;
 pub struct Refusal(pub Fault);
 
 /// The letter of the layer that refuses: `s` for the space, `n` for the net.
-// Kept: this letter is how `route` prints a layer; a `Display` of `Layer` would be everyone's.
 fn letter(fault: Fault) -> char
     ensures { result ≡ letter_of (layer_of fault) }
 {

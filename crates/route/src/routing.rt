@@ -4,11 +4,10 @@ ghost use Rattle.std.specs.Prelude.{◌≡◌, ◌+◌, ◌*◌, ◌/◌, true, 
 use crate::printing::{print_figure, print_refusal};
 use crate::refining::{Refined, TURNS, hooks, hooks_and_shares};
 use crate::refusal::Refusal;
-use crate::table::{print_rows, wire};
-use input::Entry;
+use crate::table::{on_driver, print_meets, print_pins, print_rows, wire};
+use input::{Allowance, Entry};
 use net::{Fault, Joining, Net, Space, Worst};
 use std::io;
-use walk::Allowance;
 
 /// Why a net is not routed: a line could not be printed, or a call was refused.
 #[derive(Drop)]
@@ -23,47 +22,50 @@ impl From<io::Error> for Stop {
     }
 }
 
-/// A net that is routed: where its report is printed, and the allowance that it is built by.
+/// A net that is routed: where its report is printed, the space that it is in, and the allowance that it is built by.
 #[derive(Drop)]
 pub struct Route<'a, S: Space> {
     pub rt: &'a HostRuntime,
     pub net: Net<S>,
+    pub space: S,
     pub allowance: Allowance,
 }
 
 impl<'a, S: Space> Route<'a, S> {
-    // Kept: tried closures that take the net for the steps in which this and `joining` differ; the check states no bound with a net in it yet.
     /// Routes the spots in a space that can only measure, and answers how many pins were routed: all that were taken, or none.
-    pub fn measuring(&mut self, entries: &[Entry]) -> io::Result<u32> {
+    pub fn measuring(&mut self, entries: &[Entry]) -> io::Result<usize> {
         let pins = self.enter(entries)?;
         let built = self.build().map(|()| hooks(&mut self.net));
         self.finish(built, pins)
     }
 
     /// Enters the spots as pins, reports those that are refused, and answers how many were taken.
-    fn enter(&mut self, entries: &[Entry]) -> io::Result<u32> {
-        let mut pins: u32 = 0;
+    fn enter(&mut self, entries: &[Entry]) -> io::Result<usize> {
+        let mut pins: usize = 0;
         for entry in entries {
             match self.net.pin(entry.spot) {
                 Ok(_) => pins = pins.saturating_add(1),
                 Err(fault) => print_left_out(self.rt, *entry, fault)?,
             }
         }
-        print_figure(self.rt, "pins", u64::from(pins))?;
+        print_figure(self.rt, "pins", pins as u64)?;
         Ok(pins)
     }
 
-    /// Sets the allowance, grows the spanning seed of the pins and builds the straight tree.
+    /// Sets the allowance, grows the spanning seed of the pins, builds the straight tree and prints how it hangs.
     fn build(&mut self) -> Result<(), Stop> {
         self.net
             .allow(self.allowance.p(), self.allowance.q())
             .map_err(|fault| Stop::Refused("allowance", fault))?;
         done(self.rt, "spanning seed", self.net.span())?;
-        done(self.rt, "straight tree", self.net.straight())
+        done(self.rt, "straight tree", self.net.straight())?;
+        print_figure(self.rt, "on the driver", on_driver(&self.net))?;
+        self.print_worst("straight worst")?;
+        Ok(())
     }
 
     /// Prints the refusal, where there is one, else the refined tree; answers how many pins were routed.
-    fn finish(&self, built: Result<Refined, Stop>, pins: u32) -> io::Result<u32> {
+    fn finish(&self, built: Result<Refined, Stop>, pins: usize) -> io::Result<usize> {
         match built {
             Ok(refined) => {
                 self.print_tree(refined)?;
@@ -77,36 +79,39 @@ impl<'a, S: Space> Route<'a, S> {
         }
     }
 
-    /// Prints what refining did, the worst sink and the rows of the tree.
+    /// Prints what refining did, the worst sink, the rows of the tree, and how far each pin is.
     fn print_tree(&self, refined: Refined) -> io::Result<()> {
         print_figure(self.rt, "refined tree", wire(&self.net))?;
         print_refined(self.rt, refined)?;
-        self.print_worst()?;
-        print_rows(self.rt, &self.net)
+        self.print_worst("worst sink")?;
+        print_rows(self.rt, &self.net)?;
+        print_pins(self.rt, &self.net)
     }
 
     /// Prints the worst sink with its figure, and the greatest figure that the allowance leaves, both in thousandths.
-    fn print_worst(&self) -> io::Result<()> {
+    fn print_worst(&self, name: &str) -> io::Result<()> {
         match self.net.worst() {
             Ok(Worst { pin, figure }) => {
                 let most = most_allowed(self.allowance);
                 println!(self.rt;
-                    "  worst sink      {figure:>12}  thousandths of the direct distance at pin {pin}, {most} allowed"
+                    "  {name:<15} {figure:>12}  thousandths of the direct distance at pin {pin}, {most} allowed"
                 )
             }
-            Err(fault) => print_refusal(self.rt, "worst sink", fault),
+            Err(fault) => print_refusal(self.rt, name, fault),
         }
     }
 }
 
 impl<'a, S: Joining> Route<'a, S> {
     /// Routes the spots in a space that can join wires too, and answers how many pins were routed: all that were taken, or none.
-    pub fn joining(&mut self, entries: &[Entry]) -> io::Result<u32> {
+    pub fn joining(&mut self, entries: &[Entry]) -> io::Result<usize> {
         let pins = self.enter(entries)?;
         let built = self
             .build_joined()
             .map(|()| hooks_and_shares(&mut self.net));
-        self.finish(built, pins)
+        let routed = self.finish(built, pins)?;
+        print_meets(self.rt, &self.net, &self.space, routed)?;
+        Ok(routed)
     }
 
     /// Builds the joined tree in place of the straight one.

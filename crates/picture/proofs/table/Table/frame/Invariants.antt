@@ -1,8 +1,0 @@
-use Rattle.std.proofs.Common.{map}
-use Rattle.std.specs.Map.Iter.{deref}
-use Rattle.picture.proofs.Boxes.{Boxed}
-use Rattle.picture.proofs.table.Table.frame.Given as goal
-
--- the rows so far lie in the box
-abbrev pub invariant-loop-row : goal.invariant-loop-row
-invariant-loop-row l = Boxed l.frame (map deref l.yielded)
