@@ -2,6 +2,10 @@
 
 #![tactic(auto)]
 
+mod pair;
+
+pub use pair::Pair;
+
 ghost use Rattle.build_laws.specs.Joining.{JoiningKeeps};
 ghost use Rattle.build_laws.specs.Straight.{StraightKeeps};
 

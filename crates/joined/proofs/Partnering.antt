@@ -9,17 +9,17 @@ use Rattle.order.proofs.Finding.{among_either, among_left, among_none, among_one
 use Rattle.space.specs.declared.Space.{Ghosts}
 use Rattle.space.specs.declared.spot.Spot.{Spot}
 use Rattle.tree_laws.specs.declared.Row.{Row}
-use Rattle.tree.specs.Hooks.{reach_of}
+use Rattle.tree_laws.specs.Distances.{reach_of}
 use Rattle.order.specs.Bests.{BestOf, Decides}
 use Rattle.order.specs.Lexical.{then_above, then_level}
 use Rattle.order.proofs.Deciding.{Below, decides_first}
 use Rattle.build_laws.specs.Joining.{Farthest, PairOf, far_of}
-use Rattle.joined.specs.declared.pair.Pair.{Pair}
-use Rattle.joined.specs.Pairs.{Again, Firsts, FirstsOf, Held, Lasting, NoFarther, PairIn, Partner, PartnerAt, Ready, Stale, pair_before, pair_of}
+use Rattle.build_laws.specs.declared.pair.Pair.{Pair}
+use Rattle.joined.specs.Pairs.{Again, Firsts, FirstsOf, Held, Lasting, NoFarther, PairIn, Partner, PartnerAt, Ready, Stale, pair_of}
+use Rattle.build_laws.specs.Pairs.{pair_before, pair_order, same_pair}
 use Rattle.joined.specs.Joinings.{Rising}
 use Rattle.joined.proofs.Keeping.{among_here, among_place}
 use Rattle.joined.proofs.Rising.{rising_later}
-use Rattle.joined.specs.Orders.{pair_order, same_pair}
 
 -- what does not come first is not less
 pub then_lead : (a b : ℕ) (r : Bool) → then_by a b r ≡ false → b ≤ a

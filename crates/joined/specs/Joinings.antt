@@ -1,6 +1,6 @@
 -- Joining a group of rows on the driver, step by step, and what the call answers. `d` is the distance of two spots, and `j o a b` the meet of a
 -- and b seen from o. Assumes nothing.
-use Rattle.std.specs.Prelude.{◌≡◌, ℕ, ◌+◌, ◌<◌, ◌≤◌, Bool, true, false, not, ◌&&◌, List, length, Some, None, Option, ◌==◌, slice_index}
+use Rattle.std.specs.Prelude.{◌≡◌, ℕ, ◌+◌, ◌<◌, ◌≤◌, Bool, true, false, List, length, Some, None, Option, slice_index}
 use Rattle.order.specs.Firsts.{Among}
 use Rattle.space.specs.declared.Space.{Ghosts}
 use Rattle.space.specs.declared.Joining.{Ghosts as JoinGhosts}
@@ -8,11 +8,10 @@ use Rattle.space.specs.declared.spot.Spot.{Spot}
 use Rattle.tree_laws.specs.declared.Row.{Row}
 use Rattle.tree_laws.specs.Trees.{Child, Hung, wire_of}
 use Rattle.tree.specs.declared.table.Table.{Table}
-use Rattle.tree.specs.Hooks.{Measured, reach_of}
+use Rattle.tree_laws.specs.Distances.{Measured, join_of, reach_of}
 use Rattle.tree.specs.Tables.{rows_of}
-use Rattle.share.specs.Shares.{join_of}
 use Rattle.build_laws.specs.Joining.{Joins, Kept, PairOf, far_of}
-use Rattle.joined.specs.declared.pair.Pair.{Pair}
+use Rattle.build_laws.specs.declared.pair.Pair.{Pair}
 use Rattle.joined.specs.Pairs.{Firsts}
 
 -- ---- what can be joined
@@ -58,10 +57,6 @@ JoinedBy G J s t₀ group None t = (Joinable (rows_of t₀) group → ⊥) × (t
 JoinedBy G J s t₀ group (Some w) t = Whole G J s (rows_of t₀) group w (rows_of t)
 
 -- ---- the steps
-
--- Neither a nor b.
-abbrev pub others : (a b : ℕ) → ℕ → Bool
-others a b x = not (x == a) && not (x == b)
 
 module _ (d : Spot → Spot → ℕ) (j : Spot → Spot → Spot → Spot) where
   -- The group can be joined, and F holds the first pair of each member.

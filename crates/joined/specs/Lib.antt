@@ -1,3 +1,2 @@
 pub mod Joinings
 pub mod Pairs
-pub mod Orders

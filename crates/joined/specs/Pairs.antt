@@ -1,17 +1,13 @@
 -- Pairs of members of a group of rows on the driver, and the first pair of each member. `d` is the distance of two spots, and `j o a b` the meet
 -- of a and b seen from o. Assumes nothing.
-use Rattle.std.specs.Prelude.{◌≡◌, ℕ, ◌<◌, ◌≤◌, Bool, ◌⊎◌, List, length, Some, None, Option, ◌≢◌, nat_lt, slice_index}
+use Rattle.std.specs.Prelude.{◌≡◌, ℕ, ◌<◌, ◌≤◌, ◌⊎◌, List, length, Some, None, Option, ◌≢◌, slice_index}
 use Rattle.order.specs.Firsts.{Among}
-use Rattle.order.specs.Orders.{then_by}
 use Rattle.space.specs.declared.spot.Spot.{Spot}
 use Rattle.tree_laws.specs.declared.Row.{Row}
 use Rattle.order.specs.Bests.{BestOf}
 use Rattle.build_laws.specs.Joining.{PairOf, far_of}
-use Rattle.joined.specs.declared.pair.Pair.{Pair}
-
--- The farther first, then the lower a, then the lower b.
-abbrev pub pair_before : (x y : Pair) → Bool
-pair_before x y = then_by y.far x.far (then_by x.a y.a (nat_lt x.b y.b))
+use Rattle.build_laws.specs.declared.pair.Pair.{Pair}
+use Rattle.build_laws.specs.Pairs.{pair_before}
 
 module _ (d : Spot → Spot → ℕ) (j : Spot → Spot → Spot → Spot) where
   -- The pair of two rows.

@@ -1,11 +1,11 @@
 ghost use Rattle.std.specs.Prelude.{◌≡◌, ◌≤◌, length, vec_capacity, filter, Decides};
-ghost use Rattle.tree.specs.Hooks.{reach_of};
+ghost use Rattle.tree_laws.specs.Distances.{join_of, reach_of};
 ghost use Rattle.tree.specs.Tables.{rows_of};
-ghost use Rattle.share.specs.Shares.{join_of};
-ghost use Rattle.joined.specs.Joinings.{AllHang, Asked, Joinable, JoinedBy, Rising, Standing, Stepped, others};
+ghost use Rattle.build_laws.specs.Joining.{others};
+ghost use Rattle.joined.specs.Joinings.{AllHang, Asked, Joinable, JoinedBy, Rising, Standing, Stepped};
 
-use crate::pair::Pair;
 use crate::partners::{Change, Group};
+use build_laws::Pair;
 use order::first;
 use share::{hangs, part};
 use space::Joining;

@@ -1,13 +1,13 @@
 // The first partner of each member of the group.
 ghost use Rattle.std.specs.Prelude.{◌≡◌, ◌+◌, ◌<◌, ◌≤◌, cond, length, vec_capacity};
 ghost use Rattle.order.specs.Bests.{BestOf};
-ghost use Rattle.tree.specs.Hooks.{reach_of};
+ghost use Rattle.tree_laws.specs.Distances.{join_of, reach_of};
 ghost use Rattle.tree.specs.Tables.{rows_of};
-ghost use Rattle.share.specs.Shares.{join_of};
+ghost use Rattle.build_laws.specs.Pairs.{pair_before};
 ghost use Rattle.joined.specs.Joinings.{Rising};
-ghost use Rattle.joined.specs.Pairs.{Again, Firsts, NoFarther, Partner, PartnerAt, Ready, Stale, pair_before, pair_of};
+ghost use Rattle.joined.specs.Pairs.{Again, Firsts, NoFarther, Partner, PartnerAt, Ready, Stale, pair_of};
 
-use crate::pair::Pair;
+use build_laws::Pair;
 use order::first_until;
 use share::join;
 use space::{Joining, LONGEST};

@@ -16,7 +16,7 @@ use Rattle.span.specs.Grown.{Grown, Spanned}
 use Rattle.span.specs.Lengths.{length_of, lengths, spot_of}
 use Rattle.span.specs.Spanning.{Spanning}
 use Rattle.span.proofs.Steps.{spanning_agrees}
-use Rattle.tree.specs.Hooks.{reach_of}
+use Rattle.tree_laws.specs.Distances.{reach_of}
 use Rattle.tree.specs.Tables.{rows_of}
 use Rattle.tree.specs.declared.table.Table.{Table}
 use Rattle.net.specs.declared.board.Board.{Board}

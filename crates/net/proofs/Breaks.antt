@@ -15,14 +15,13 @@ use Rattle.net_laws.specs.States.{State, with_tree}
 use Rattle.net_laws.specs.Worlds.{cut, joining}
 use Rattle.order.specs.Firsts.{Among}
 use Rattle.seed.specs.Seeds.{edges_of, nodes_of}
-use Rattle.share.specs.Shares.{join_of}
+use Rattle.tree_laws.specs.Distances.{join_of, reach_of}
 use Rattle.space.specs.declared.Joining.{Ghosts as JoinGhosts}
 use Rattle.space.specs.declared.Space.{Ghosts}
 use Rattle.space.specs.declared.spot.Spot.{Spot}
 use Rattle.span.specs.Lengths.{spot_of as spot_at}
 use Rattle.straight.specs.Built.{StraightBy, Straightened, breakpoints_of}
 use Rattle.straight.proofs.Mixed.{among_breakpoints}
-use Rattle.tree.specs.Hooks.{reach_of}
 use Rattle.tree.specs.Tables.{rows_of}
 use Rattle.tree.specs.declared.table.Table.{Table as Tree-table}
 use Rattle.tree_laws.specs.Trees.{add, hang, spot_of, up, wire_of}

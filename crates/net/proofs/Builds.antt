@@ -13,7 +13,7 @@ use Rattle.space.specs.declared.Space.{Ghosts}
 use Rattle.space.specs.declared.spot.Spot.{Spot}
 use Rattle.span.specs.Lengths.{spot_of}
 use Rattle.straight.specs.Built.{Answer, Matches, StraightBy, Straightened}
-use Rattle.tree.specs.Hooks.{reach_of}
+use Rattle.tree_laws.specs.Distances.{reach_of}
 use Rattle.tree.specs.Tables.{rows_of}
 use Rattle.tree.specs.declared.table.Table.{Table}
 use Rattle.tree_laws.specs.declared.Row.{Row}

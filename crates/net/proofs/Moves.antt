@@ -5,14 +5,16 @@ use Rattle.net_laws.specs.States.{State}
 use Rattle.net_laws.specs.Worlds.{cut, joining}
 use Rattle.net_laws.specs.declared.fault.Fault.{Fault}
 use Rattle.seed.specs.Seeds.{edges_of}
-use Rattle.share.specs.Shares.{Saved, Shared, join_of, meet_of, shared_by}
-use Rattle.share.specs.declared.share.Share.{Share}
+use Rattle.share.specs.Shares.{Saved, Shared}
+use Rattle.tree_laws.specs.Distances.{join_of, reach_of}
+use Rattle.tree_laws.specs.Shares.{meet_of, shared_by}
+use Rattle.tree_laws.specs.declared.share.Share.{Share}
 use Rattle.share.specs.declared.sharing.Unshared.{Unshared}
 use Rattle.share.specs.declared.sharing.Unshared.TheVariants.{Nothing, Full}
 use Rattle.space.specs.declared.Joining.{Ghosts as JoinGhosts}
 use Rattle.space.specs.declared.Space.{Ghosts}
 use Rattle.space.specs.declared.spot.Spot.{Spot}
-use Rattle.tree.specs.Hooks.{Hooked, reach_of}
+use Rattle.tree.specs.Hooks.{Hooked}
 use Rattle.tree.specs.Tables.{rows_of}
 use Rattle.tree.specs.declared.table.Table.{Table}
 use Rattle.tree_laws.specs.Trees.{add, hang, spot_of}

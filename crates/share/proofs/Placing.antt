@@ -10,8 +10,9 @@ use Rattle.tree.specs.declared.table.Refusal.{Refusal}
 use Rattle.tree.specs.declared.table.Table.{Table}
 use Rattle.tree.specs.Tables.{Changed, rows_of}
 use Rattle.tree.proofs.Hooking.{changed_hangs}
-use Rattle.share.specs.declared.share.Share.{Share}
-use Rattle.share.specs.Shares.{Parts, ShareMove}
+use Rattle.tree_laws.specs.declared.share.Share.{Share}
+use Rattle.tree_laws.specs.Shares.{ShareMove}
+use Rattle.share.specs.Shares.{Parts}
 
 -- a row that has a child is a row
 pub parent_row : (t : Table) (v c : ℕ) → Child (rows_of t) v c → v < length (rows_of t)

@@ -1,49 +1,19 @@
--- The share move: what it is, what it saves, and which is the best. `d` is how far apart two spots are, and `j o a b` is where the ways from o
--- to a and to b part. Assumes nothing.
-use Rattle.std.specs.Prelude.{◌≡◌, ℕ, ◌+◌, ◌<◌, Bool, true, false, ◌&&◌, List, length, Some, None, Ok, Err, Option, Result, nat_lt}
-use Rattle.std.specs.Option.{unwrap_or}
-use Rattle.order.specs.Orders.{then_by}
-use Rattle.space.specs.Laws.{answered}
+-- What a call for the best share move answers, and what it does to the table. `d` is how far apart two spots are, and `j o a b` is where the ways
+-- from o to a and to b part. Assumes nothing.
+use Rattle.std.specs.Prelude.{◌≡◌, ℕ, ◌+◌, ◌<◌, Bool, true, false, List, length, Some, None, Ok, Err, Option, Result}
+use Rattle.order.specs.Bests.{BestOf}
 use Rattle.space.specs.declared.Space.{Ghosts}
 use Rattle.space.specs.declared.Joining.{Ghosts as JoinGhosts}
 use Rattle.space.specs.declared.spot.Spot.{Spot}
 use Rattle.tree_laws.specs.declared.Row.{Row}
+use Rattle.tree_laws.specs.declared.share.Share.{Share}
+use Rattle.tree_laws.specs.Distances.{Measured, join_of, reach_of}
+use Rattle.tree_laws.specs.Shares.{ShareMove, share_before, shared_by}
 use Rattle.tree_laws.specs.Trees.{Child, Hung, between, path_length, spot_of, wire_of}
 use Rattle.tree.specs.declared.table.Table.{Table}
-use Rattle.order.specs.Bests.{BestOf}
-use Rattle.tree.specs.Hooks.{Measured, reach_of}
 use Rattle.tree.specs.Tables.{rows_of}
-use Rattle.share.specs.declared.share.Share.{Share}
 use Rattle.share.specs.declared.sharing.Unshared.{Unshared}
 use Rattle.share.specs.declared.sharing.Unshared.TheVariants.{Nothing, Full}
-
--- The greater saving first, then the lower v, then the lower a, then the lower b.
-abbrev pub share_before : (x y : Share) → Bool
-share_before x y = then_by y.saving x.saving (then_by x.v y.v (then_by x.a y.a (nat_lt x.b y.b)))
-
--- The meet of the two children, seen from v.
-abbrev pub meet_of : List Row → (Spot → Spot → Spot → Spot) → Share → Spot
-meet_of rows j m = j (spot_of rows m.v) (spot_of rows m.a) (spot_of rows m.b)
-
--- A move puts the meet of two children a < b of v between v and both. It saves the distance of v and the meet, 1 or more.
-pub record ShareMove (rows : List Row) (d : Spot → Spot → ℕ) (j : Spot → Spot → Spot → Spot) (m : Share) : Type 0 where
-  pub row : m.v < length rows
-  pub first : Child rows m.v m.a
-  pub second : Child rows m.v m.b
-  pub order : m.a < m.b
-  pub saves : m.saving ≡ d (spot_of rows m.v) (meet_of rows j m)
-  pub counts : 0 < m.saving
-
--- The rows after a move: the meet between v and both children.
-abbrev pub shared_by : List Row → (Spot → Spot → ℕ) → (Spot → Spot → Spot → Spot) → Share → List Row
-shared_by rows d j m =
-    between rows m.v (meet_of rows j m) (d (spot_of rows m.v) (meet_of rows j m)) m.a (d (meet_of rows j m) (spot_of rows m.a)) m.b (d (meet_of rows j m) (spot_of rows m.b))
-
--- ---- the space
-
--- The meet of a and b seen from o; o where there is none.
-abbrev pub join_of : {X : Type 0} → Ghosts X → JoinGhosts X → X → Spot → Spot → Spot → Spot
-join_of G J s o a b = unwrap_or (answered (G.admitted s o && G.admitted s a && G.admitted s b) (J.meeting s o a b)) o
 
 -- ---- the answer
 

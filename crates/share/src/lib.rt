@@ -3,9 +3,8 @@
 #![tactic(auto)]
 
 mod parting;
-mod share;
 mod sharing;
 
 pub use parting::{hangs, join, part};
-pub use share::Share;
 pub use sharing::{Unshared, share_best};
+pub use tree_laws::Share;

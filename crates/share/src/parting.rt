@@ -1,7 +1,7 @@
 ghost use Rattle.std.specs.Prelude.{◌≡◌};
-ghost use Rattle.tree.specs.Hooks.{reach_of};
+ghost use Rattle.tree_laws.specs.Distances.{join_of, reach_of};
 ghost use Rattle.tree.specs.Tables.{rows_of};
-ghost use Rattle.share.specs.Shares.{Hanging, Parted, join_of};
+ghost use Rattle.share.specs.Shares.{Hanging, Parted};
 
 use space::{Joining, Spot};
 use tree::{Table, reach};

@@ -1,14 +1,15 @@
 ghost use Rattle.std.specs.Prelude.{◌≡◌};
 ghost use Rattle.order.specs.Bests.{BestOf};
-ghost use Rattle.tree.specs.Hooks.{reach_of};
+ghost use Rattle.tree_laws.specs.Distances.{join_of, reach_of};
+ghost use Rattle.tree_laws.specs.Shares.{ShareMove, share_before};
 ghost use Rattle.tree.specs.Tables.{rows_of};
-ghost use Rattle.share.specs.Shares.{ShareAt, ShareMove, Shared, join_of, share_before};
+ghost use Rattle.share.specs.Shares.{ShareAt, Shared};
 
 use crate::parting::{join, part};
-use crate::share::Share;
 use order::first_of_pairs;
 use space::Joining;
 use tree::{Table, reach};
+use tree_laws::Share;
 
 /// Why no share move was made.
 #[derive(Clone, Copy, Debug, PartialEq, Eq)]

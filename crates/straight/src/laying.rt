@@ -1,6 +1,6 @@
 // The direct distances of the nodes, and the rows of the straight tree.
 ghost use Rattle.std.specs.Prelude.{◌≡◌, ◌≤◌, map, length, vec_capacity, slice_index_or};
-ghost use Rattle.tree.specs.Hooks.{reach_of};
+ghost use Rattle.tree_laws.specs.Distances.{reach_of};
 ghost use Rattle.tree.specs.Tables.{rows_of};
 ghost use Rattle.walk.specs.Marks.{directs, idle, marks, rules_of};
 ghost use Rattle.walk.specs.Tables.{rows_of as walkRows};

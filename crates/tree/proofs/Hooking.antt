@@ -4,11 +4,12 @@ use Rattle.tree_laws.specs.declared.Row.{Row}
 use Rattle.tree_laws.specs.Trees.{Tree, Hangs, hang, path_length, wire_of}
 use Rattle.tree_laws.proofs.Ways.{hung}
 use Rattle.tree_laws.proofs.Hanging.{hang_never_grows, hang_tree, hang_wire}
-use Rattle.tree.specs.declared.hook.Hook.{Hook}
+use Rattle.tree_laws.specs.declared.hook.Hook.{Hook}
 use Rattle.tree.specs.declared.table.Refusal.{Refusal}
 use Rattle.tree.specs.declared.table.Table.{Table}
 use Rattle.order.specs.Bests.{BestOf}
-use Rattle.tree.specs.Hooks.{hook_before, HookMove, Saved}
+use Rattle.tree_laws.specs.Hooks.{HookMove, hook_before}
+use Rattle.tree.specs.Hooks.{Saved}
 use Rattle.tree.specs.Tables.{Changed, rows_of}
 
 -- what can be hung is hung

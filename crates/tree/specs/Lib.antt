@@ -1,4 +1,2 @@
-pub mod Bests
-pub mod Hooks
 pub mod Tables
-pub mod Moves
+pub mod Hooks

@@ -1,12 +1,14 @@
 ghost use Rattle.std.specs.Prelude.{◌≡◌, ◌≤◌};
 ghost use Rattle.order.specs.Bests.{BestOf};
-ghost use Rattle.tree.specs.Hooks.{HookMove, Hooked, Measured, MoveAt, apart, hook_before, reach_of};
+ghost use Rattle.tree_laws.specs.Distances.{Measured, apart, reach_of};
+ghost use Rattle.tree_laws.specs.Hooks.{HookMove, hook_before};
+ghost use Rattle.tree.specs.Hooks.{Hooked, MoveAt};
 ghost use Rattle.tree.specs.Tables.{Paths, rows_of};
 
-use crate::hook::Hook;
 use crate::table::{ROWS, Table};
 use order::first_of_pairs;
 use space::{LONGEST, Space, Spot};
+use tree_laws::Hook;
 
 /// The distance of two spots, at most `LONGEST`; 0 where there is none.
 pub fn reach<S: Space>(space: &S, a: Spot, b: Spot) -> u64

@@ -1,6 +1,5 @@
 use Rattle.std.proofs.Common.{rules}
-use Rattle.tree.specs.Hooks.{reach_of}
-use Rattle.share.specs.Shares.{join_of}
+use Rattle.tree_laws.specs.Distances.{join_of, reach_of}
 use Rattle.share.proofs.Placing.{one_never_refused, two_never_refused}
 use Rattle.share.proofs.parting.part.Goals as goal
 

@@ -1,13 +1,15 @@
 use Rattle.std.proofs.Common.{◌≡◌, ℕ, Some, None, Err, Option, Result, refl, subst, rules}
 use Rattle.order.specs.Bests.{BestOf}
 use Rattle.tree_laws.proofs.Ways.{hung}
-use Rattle.tree.specs.Hooks.{reach_of}
+use Rattle.tree_laws.specs.Distances.{join_of, reach_of}
+use Rattle.tree_laws.specs.Shares.{ShareMove, share_before}
 use Rattle.tree.specs.Tables.{rows_of}
-use Rattle.share.specs.declared.share.Share.{Share}
+use Rattle.tree_laws.specs.declared.share.Share.{Share}
 use Rattle.share.specs.declared.sharing.Unshared.{Unshared}
 use Rattle.share.specs.declared.sharing.Unshared.TheVariants.{Nothing, Full}
-use Rattle.share.specs.Shares.{Parted, ShareMove, Shared, join_of, share_before}
-use Rattle.share.proofs.Measures.{best_measured, gained_measured}
+use Rattle.share.specs.Shares.{Parted, Shared}
+use Rattle.tree_laws.proofs.ShareMoves.{best_measured}
+use Rattle.share.proofs.Gaining.{gained_measured}
 use Rattle.share.proofs.Placing.{full_table}
 use Rattle.share.proofs.sharing.share_best.Goals as goal
 

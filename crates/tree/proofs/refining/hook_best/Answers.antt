@@ -1,9 +1,9 @@
 use Rattle.std.proofs.Common.{◌≡◌, ℕ, ◌-◌, ◌≤◌, ap, arith}
 use Rattle.tree_laws.specs.declared.Row.{Row}
-use Rattle.tree.specs.Hooks.{apart}
+use Rattle.tree_laws.specs.Distances.{apart}
 use Rattle.tree.specs.Tables.{rows_of}
 use Rattle.tree.proofs.Hooking.{changed_hangs, saved}
-use Rattle.tree.proofs.Measured.{saved_again, saved_measured}
+use Rattle.tree.proofs.Saving.{saved_again, saved_measured}
 use Rattle.tree.proofs.refining.hook_best.Goals as goal
 
 pub returns : goal.returns

@@ -1,6 +1,5 @@
 use Rattle.std.proofs.Common.{ℕ, List, length, vec_items, sym, ap, subst, arith}
-use Rattle.share.specs.Shares.{join_of}
-use Rattle.tree.specs.Hooks.{reach_of}
+use Rattle.tree_laws.specs.Distances.{join_of, reach_of}
 use Rattle.tree.specs.Tables.{rows_of}
 use Rattle.joined.specs.Joinings.{Joinable}
 use Rattle.joined.specs.Pairs.{Firsts}

@@ -1,10 +1,9 @@
 use Rattle.std.proofs.Common.{◌≡◌, List, vec_items, sym, ap, ◌∙◌, subst, arith}
 use Rattle.build_laws.specs.Joining.{Joins}
 use Rattle.build_laws.specs.Joining.Joins.{done}
-use Rattle.share.specs.Shares.{join_of}
+use Rattle.tree_laws.specs.Distances.{join_of, reach_of}
 use Rattle.tree_laws.specs.declared.Row.{Row}
 use Rattle.tree_laws.proofs.Ways.{hung}
-use Rattle.tree.specs.Hooks.{reach_of}
 use Rattle.tree.specs.Tables.{rows_of}
 use Rattle.joined.proofs.Keeping.{among_empty}
 use Rattle.joined.proofs.Owning.{owned}

@@ -1,8 +1,7 @@
 use Rattle.std.proofs.Common.{◌+◌, ◌≤◌, List, length, vec_items}
 use Rattle.build_laws.specs.Joining.{Joins}
-use Rattle.share.specs.Shares.{join_of}
+use Rattle.tree_laws.specs.Distances.{join_of, reach_of}
 use Rattle.tree_laws.specs.declared.Row.{Row}
-use Rattle.tree.specs.Hooks.{reach_of}
 use Rattle.tree.specs.Tables.{rows_of}
 use Rattle.joined.specs.Joinings.{Standing}
 use Rattle.joined.proofs.joining.Joiner.join.Given as goal

@@ -1,12 +1,11 @@
 use Rattle.std.proofs.Common.{◌≡◌, ℕ, ◌<◌, List, [], ◌∷◌, ◌++◌, length, Some, None, vec_items, filter, refl, ap, ◌∙◌, subst, arith}
 use Rattle.order.specs.Firsts.{FirstOf}
-use Rattle.build_laws.specs.Joining.{far_of}
-use Rattle.share.specs.Shares.{join_of}
-use Rattle.tree.specs.Hooks.{reach_of}
+use Rattle.build_laws.specs.Joining.{far_of, others}
+use Rattle.tree_laws.specs.Distances.{join_of, reach_of}
 use Rattle.tree.specs.Tables.{rows_of}
-use Rattle.joined.specs.declared.pair.Pair.{Pair}
-use Rattle.joined.specs.Joinings.{others}
-use Rattle.joined.specs.Pairs.{Firsts, pair_before}
+use Rattle.build_laws.specs.declared.pair.Pair.{Pair}
+use Rattle.joined.specs.Pairs.{Firsts}
+use Rattle.build_laws.specs.Pairs.{pair_before}
 use Rattle.joined.proofs.Keeping.{kept_few}
 use Rattle.joined.proofs.Partnering.{best_farthest, best_near, best_none, firsts_best}
 use Rattle.joined.proofs.Stepping.{ready_at, rising_at, shorter_at, step_parts, stepped_at}

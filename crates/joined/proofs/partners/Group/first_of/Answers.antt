@@ -1,10 +1,9 @@
 use Rattle.std.proofs.Common.{rules}
 use Rattle.order.proofs.Deciding.{Below, found_best}
-use Rattle.share.specs.Shares.{join_of}
-use Rattle.tree.specs.Hooks.{reach_of}
+use Rattle.tree_laws.specs.Distances.{join_of, reach_of}
 use Rattle.tree.specs.Tables.{rows_of}
 use Rattle.joined.specs.Pairs.{PartnerAt}
-use Rattle.joined.specs.Orders.{pair_order}
+use Rattle.build_laws.specs.Pairs.{pair_order}
 use Rattle.joined.proofs.Partnering.{until_best}
 use Rattle.joined.proofs.partners.Group.first_of.Goals as goal
 

@@ -1,8 +1,7 @@
 use Rattle.std.proofs.Common.{List, sym, subst, vec_items, rules}
-use Rattle.share.specs.Shares.{join_of}
-use Rattle.tree.specs.Hooks.{reach_of}
+use Rattle.tree_laws.specs.Distances.{join_of, reach_of}
 use Rattle.tree.specs.Tables.{rows_of}
-use Rattle.joined.specs.declared.pair.Pair.{Pair}
+use Rattle.build_laws.specs.declared.pair.Pair.{Pair}
 use Rattle.joined.specs.Pairs.{Firsts}
 use Rattle.joined.proofs.Partnering.{never_farther, renewed, renewed_none, renewed_some}
 use Rattle.joined.proofs.partners.Group.renew.Goals as goal

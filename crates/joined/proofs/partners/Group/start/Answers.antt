@@ -1,10 +1,9 @@
 use Rattle.std.proofs.Common.{◌≡◌, ℕ, ◌+◌, List, get_or, take, vec_items, sym, ◌∙◌, subst, arith}
 use Rattle.std.proofs.lemmas.List.{take_all}
 use Rattle.order.specs.Firsts.{Among}
-use Rattle.share.specs.Shares.{join_of}
-use Rattle.tree.specs.Hooks.{reach_of}
+use Rattle.tree_laws.specs.Distances.{join_of, reach_of}
 use Rattle.tree.specs.Tables.{rows_of}
-use Rattle.joined.specs.declared.pair.Pair.{Pair}
+use Rattle.build_laws.specs.declared.pair.Pair.{Pair}
 use Rattle.joined.specs.Pairs.{FirstsOf}
 use Rattle.joined.proofs.Partnering.{firsts_push, firsts_same, held, never_farther}
 use Rattle.joined.proofs.Keeping.{among_here, among_next}

@@ -1,7 +1,6 @@
 use Rattle.std.proofs.Common.{◌≡◌, ◌≤◌, take, vec_items, vec_len, vec_capacity}
 use Rattle.order.specs.Firsts.{Among}
-use Rattle.share.specs.Shares.{join_of}
-use Rattle.tree.specs.Hooks.{reach_of}
+use Rattle.tree_laws.specs.Distances.{join_of, reach_of}
 use Rattle.tree.specs.Tables.{rows_of}
 use Rattle.joined.specs.Pairs.{FirstsOf}
 use Rattle.joined.proofs.partners.Group.start.Given as goal

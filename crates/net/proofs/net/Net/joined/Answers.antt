@@ -5,8 +5,7 @@ use Rattle.net_laws.specs.Worlds.{joining}
 use Rattle.net_laws.proofs.Sparing.{joined_bounds, joined_shorter, joined_spared}
 use Rattle.net.specs.Nets.{seen, table_of}
 use Rattle.net.proofs.Owned.{joining_keeps_lem, whole_joined}
-use Rattle.share.specs.Shares.{join_of}
-use Rattle.tree.specs.Hooks.{reach_of}
+use Rattle.tree_laws.specs.Distances.{join_of, reach_of}
 use Rattle.tree.specs.Tables.{rows_of}
 use Rattle.net.proofs.Breaks.{joined_told, straight_joinable}
 use Rattle.net.proofs.net.Net.joined.Goals as goal

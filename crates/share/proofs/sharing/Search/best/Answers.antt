@@ -1,9 +1,9 @@
 use Rattle.std.proofs.Common.{refl, arith, rules}
 use Rattle.order.proofs.Deciding.{pairs_best}
-use Rattle.tree.specs.Hooks.{reach_of}
+use Rattle.tree_laws.specs.Distances.{join_of, reach_of}
+use Rattle.tree_laws.specs.Shares.{ShareMove, share_order}
 use Rattle.tree.specs.Tables.{rows_of}
-use Rattle.share.specs.Shares.{ShareAt, ShareMove, join_of}
-use Rattle.share.specs.Moves.{share_order}
+use Rattle.share.specs.Shares.{ShareAt}
 use Rattle.share.proofs.sharing.Search.best.Goals as goal
 
 pub returns : goal.returns

@@ -1,6 +1,6 @@
 use Rattle.std.proofs.Common.{◌≡◌, ◌+◌, length, vec_items, sym, ◌∙◌, arith}
 use Rattle.seed.specs.Seeds.{edges_of, nodes_of}
-use Rattle.tree.specs.Hooks.{reach_of}
+use Rattle.tree_laws.specs.Distances.{reach_of}
 use Rattle.tree.specs.Tables.{rows_of}
 use Rattle.walk.specs.Tables.{rows_of as walkRows}
 use Rattle.straight.proofs.Spaced.{laid_measures}

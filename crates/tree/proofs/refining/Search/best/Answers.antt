@@ -1,8 +1,9 @@
 use Rattle.std.proofs.Common.{refl, arith, rules}
 use Rattle.order.proofs.Deciding.{pairs_best}
-use Rattle.tree.specs.Hooks.{HookMove, MoveAt, apart}
+use Rattle.tree_laws.specs.Distances.{apart}
+use Rattle.tree_laws.specs.Hooks.{HookMove, hook_order}
+use Rattle.tree.specs.Hooks.{MoveAt}
 use Rattle.tree.specs.Tables.{rows_of}
-use Rattle.tree.specs.Moves.{hook_order}
 use Rattle.tree.proofs.refining.Search.best.Goals as goal
 
 pub returns : goal.returns

@@ -1,5 +1,4 @@
-ghost use Rattle.share.specs.Shares.{share_before};
-ghost use Rattle.share.specs.Moves.{share_order};
+ghost use Rattle.tree_laws.specs.Shares.{share_before, share_order};
 
 use order::Rank;
 use std::cmp::Reverse;
@@ -8,9 +7,13 @@ use std::cmp::Reverse;
 /// the lower b.
 #[derive(Clone, Copy, Debug, PartialEq, Eq)]
 pub struct Share {
+    /// What it saves: the distance of `v` and the new row.
     pub saving: u64,
+    /// The row that both hang on.
     pub v: usize,
+    /// The child with the lower number.
     pub a: usize,
+    /// The other child.
     pub b: usize,
 }
 

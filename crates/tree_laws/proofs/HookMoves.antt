@@ -1,5 +1,5 @@
 -- On admitted spots, in a space that is not too wide, the distances of rows are the space's own. Assumes nothing.
-use Rattle.std.proofs.Common.{◌≡◌, ℕ, ◌<◌, ◌≤◌, min, Bool, true, false, ◌&&◌, List, length, Some, None, Option, unwrap_or, sym, ap, ◌∙◌, subst, ⊎_elim, arith}
+use Rattle.std.proofs.Common.{◌≡◌, ℕ, ◌<◌, ◌≤◌, min, Bool, true, false, ◌&&◌, List, length, Some, None, Option, unwrap_or, sym, ap, ◌∙◌, ⊎_elim, arith}
 use Rattle.std.proofs.lemmas.Bool.{cases_eq}
 use Rattle.space.specs.Laws.{Metric, answered}
 use Rattle.space.specs.declared.Space.{Ghosts}
@@ -7,9 +7,10 @@ use Rattle.space.specs.declared.spot.Spot.{Spot}
 use Rattle.tree_laws.specs.declared.Row.{Row}
 use Rattle.tree_laws.specs.Trees.{Tree, hang, length_of, spot_of, up}
 use Rattle.tree_laws.proofs.Hanging.{hang_length, hang_spot, long_other, long_same, up_other, up_same}
-use Rattle.tree.specs.declared.hook.Hook.{Hook}
+use Rattle.tree_laws.specs.declared.hook.Hook.{Hook}
+use Rattle.tree_laws.specs.Distances.{Measured, Settled, apart, distance_of}
+use Rattle.tree_laws.specs.Hooks.{HookMove, hook_before}
 use Rattle.order.specs.Bests.{BestOf}
-use Rattle.tree.specs.Hooks.{hook_before, HookMove, Measured, Saved, Settled, apart, distance_of}
 
 -- ---- two ways to measure that agree on the rows
 
@@ -30,21 +31,6 @@ best_other : (rows : List Row) (d e : ℕ → ℕ → ℕ) → Agree rows d e �
 best_other rows d e a None b = λ m q. b m (move_other rows e d (agree_back rows d e a) m q)
 best_other rows d e a (Some m) b = (move_other rows d e a m b.0, λ n q. b.1 n (move_other rows e d (agree_back rows d e a) n q))
 
-saved_other : (rows : List Row) (d e : ℕ → ℕ → ℕ) → Agree rows d e → (w : ℕ) (after : List Row) → Saved rows d w after → Saved rows e w after
-unfolding Agree
-saved_other rows d e a w after s =
-    let m = s.move in
-    let q = s.best.0.hangs in
-    record {
-      move = m;
-      best = best_other rows d e a (Some m) s.best;
-      saving = s.saving;
-      hung = s.hung ∙ ap (hang rows m.v m.u) (a m.u m.v q.parent q.row);
-      wire = s.wire;
-      paths = s.paths;
-      tree = s.tree;
-    }
-
 -- ---- the space's distances
 
 pub uncut : (x k : ℕ) (b : Bool) → b ≡ true → x ≤ k → k ≤ 100000000 → min 100000000 (unwrap_or (answered b x) 0) ≡ x
@@ -58,18 +44,6 @@ module _ {X : Type 0} (G : Ghosts X) (s : X) (rows : List Row) (law : G.width s 
       let b = p.admitted v k in
       let both : G.admitted s (spot_of rows u) && G.admitted s (spot_of rows v) ≡ true = rw (a, b) in
       uncut (distance_of G s rows u v) (G.width s) (G.admitted s (spot_of rows u) && G.admitted s (spot_of rows v)) both ((law p.narrow).within (spot_of rows u) (spot_of rows v) a b) p.narrow
-
-  pub saved_measured : (w : ℕ) (after : List Row) → Saved rows (apart G s rows) w after → Settled G s rows → Saved rows (distance_of G s rows) w after × Settled G s after
-  unfolding Agree
-  saved_measured w after x p =
-      let m = x.move in
-      let l = apart G s rows m.u m.v in
-      let Q : List Row → Type 0 = λ xs. Settled G s xs in
-      let stays : Settled G s (hang rows m.v m.u l) = record {
-        narrow = p.narrow;
-        admitted = λ k h. ap (λ (z : Spot). G.admitted s z) (hang_spot rows m.v m.u l k x.best.0.hangs.row) ∙ p.admitted k (omega (arith, hang_length rows m.v m.u l));
-      } in
-      (saved_other rows (apart G s rows) (distance_of G s rows) (measured p) w after x, subst Q (sym x.hung) stays)
 
   pub settled : Measured G s rows → Settled G s rows
   settled p = record { narrow = p.narrow; admitted = p.admitted }
@@ -93,14 +67,6 @@ module _ {X : Type 0} (G : Ghosts X) (s : X) (rows : List Row) (law : G.width s 
             (cases_eq k v);
       }
 
-  pub saved_again : Tree rows → (w : ℕ) (after : List Row) → Saved rows (apart G s rows) w after → Measured G s rows → Measured G s after
-  saved_again t w after x p =
-      let m = x.move in
-      let q = x.best.0.hangs in
-      let Q : List Row → Type 0 = λ xs. Measured G s xs in
-      let e : after ≡ hang rows m.v m.u (distance_of G s rows m.u m.v) = x.hung ∙ ap (hang rows m.v m.u) (measured (settled p) m.u m.v q.parent q.row) in
-      subst Q (sym e) (hang_measured t m.v m.u q.row q.parent p)
-
   -- a move by the cut distances is one by the space's own, and the other way round
   pub move_own : Settled G s rows → (m : Hook) → HookMove rows (apart G s rows) m → HookMove rows (distance_of G s rows) m
   unfolding Agree
@@ -109,3 +75,15 @@ module _ {X : Type 0} (G : Ghosts X) (s : X) (rows : List Row) (law : G.width s 
   pub move_cut : Settled G s rows → (m : Hook) → HookMove rows (distance_of G s rows) m → HookMove rows (apart G s rows) m
   unfolding Agree
   move_cut p m q = move_other rows (distance_of G s rows) (apart G s rows) (agree_back rows (apart G s rows) (distance_of G s rows) (measured p)) m q
+
+  -- the best by the cut distances is the best by the space's own
+  pub best_own : Settled G s rows → (o : Option Hook) → BestOf hook_before (HookMove rows (apart G s rows)) o → BestOf hook_before (HookMove rows (distance_of G s rows)) o
+  unfolding Agree
+  best_own p o b = best_other rows (apart G s rows) (distance_of G s rows) (measured p) o b
+
+  -- a row hung on another parent leaves the spots admitted
+  pub hang_settled : (v u l : ℕ) → v < length rows → Settled G s rows → Settled G s (hang rows v u l)
+  hang_settled v u l h p = record {
+    narrow = p.narrow;
+    admitted = λ k i. ap (λ (z : Spot). G.admitted s z) (hang_spot rows v u l k h) ∙ p.admitted k (omega (arith, hang_length rows v u l));
+  }

@@ -1,5 +1,4 @@
-ghost use Rattle.tree.specs.Hooks.{hook_before};
-ghost use Rattle.tree.specs.Moves.{hook_order};
+ghost use Rattle.tree_laws.specs.Hooks.{hook_before, hook_order};
 
 use order::Rank;
 use std::cmp::Reverse;
@@ -7,8 +6,11 @@ use std::cmp::Reverse;
 /// A move that hangs `v` on `u`: the greater saving first, then the lower v, then the lower u.
 #[derive(Clone, Copy, Debug, PartialEq, Eq)]
 pub struct Hook {
+    /// What it saves: the old length of `v` minus the new.
     pub saving: u64,
+    /// The row that is hung.
     pub v: usize,
+    /// The row that it is hung on.
     pub u: usize,
 }
 

@@ -9,10 +9,10 @@ use Rattle.tree_laws.specs.declared.Row.{Row}
 use Rattle.tree_laws.specs.Trees.{Child, Tree, between, length_of, path_length, row_of, spot_of, up, wire_of}
 use Rattle.tree_laws.proofs.Sharing.{between_first, between_length, between_new, between_other, between_paths, between_second, between_wire}
 use Rattle.order.specs.Bests.{BestOf}
-use Rattle.tree.specs.Hooks.{Measured, reach_of}
-use Rattle.tree.proofs.Measured.{uncut}
-use Rattle.share.specs.declared.share.Share.{Share}
-use Rattle.share.specs.Shares.{Gained, ShareMove, join_of, meet_of, share_before, shared_by}
+use Rattle.tree_laws.specs.declared.share.Share.{Share}
+use Rattle.tree_laws.specs.Distances.{Measured, join_of, reach_of}
+use Rattle.tree_laws.specs.Shares.{ShareMove, meet_of, share_before, shared_by}
+use Rattle.tree_laws.proofs.HookMoves.{uncut}
 
 -- ---- two ways to measure that agree on the rows
 
@@ -205,18 +205,3 @@ module _ {X : Type 0} (G : Ghosts X) (J : JoinGhosts X) (s : X) (rows : List Row
     pub measured_again : Measured G s after
     unfolding Long
     measured_again = record { narrow = p.narrow; admitted = admitted_all; lengths = long_all }
-
-  pub gained_measured : (t : Tree rows) (m : Share) (after : List Row) → BestOf share_before (ShareMove rows (reach_of G s) (join_of G J s)) (Some m) → after ≡ shared_by rows (reach_of G s) (join_of G J s) m → Gained G J s rows m after
-  gained_measured t m after b e =
-      let best = best_measured (Some m) b in
-      let q = best.0 in
-      let f : after ≡ shared_by rows (G.between s) (J.meeting s) m = e ∙ shared_is m q.row q.first.row q.second.row in
-      let P : List Row → Type 0 = λ xs. (k : ℕ) → k < length rows → path_length xs k ≡ path_length rows k in
-      let Q : List Row → Type 0 = λ xs. Measured G s xs in
-      record {
-        best = best;
-        shared = f;
-        wire = omega (arith, ap wire_of f, wire_falls t m q, q.saves);
-        paths = subst P (sym f) (paths_stay t m q);
-        measured = subst Q (sym f) (measured_again t m q);
-      }
