@@ -9,7 +9,6 @@ use Rattle.tree_laws.specs.declared.Row.{Row}
 use Rattle.tree_laws.specs.Trees.{Child, Hung, wire_of}
 use Rattle.tree.specs.declared.table.Table.{Table}
 use Rattle.tree_laws.specs.Distances.{Measured, join_of, reach_of}
-use Rattle.tree.specs.Tables.{rows_of}
 use Rattle.build_laws.specs.Joining.{Joins, Kept, PairOf, far_of}
 use Rattle.build_laws.specs.declared.pair.Pair.{Pair}
 use Rattle.joined.specs.Pairs.{Firsts}
@@ -53,8 +52,8 @@ pub record Whole {X : Type 0} (G : Ghosts X) (J : JoinGhosts X) (s : X) (rows : 
 
 -- Asked to join the group on the table t₀, the answer is r, and the table is t then.
 abbrev pub JoinedBy : {X : Type 0} → Ghosts X → JoinGhosts X → X → (t₀ : Table) → List ℕ → Option ℕ → (t : Table) → Type 0
-JoinedBy G J s t₀ group None t = (Joinable (rows_of t₀) group → ⊥) × (t ≡ t₀)
-JoinedBy G J s t₀ group (Some w) t = Whole G J s (rows_of t₀) group w (rows_of t)
+JoinedBy G J s t₀ group None t = (Joinable t₀.rows group → ⊥) × (t ≡ t₀)
+JoinedBy G J s t₀ group (Some w) t = Whole G J s t₀.rows group w t.rows
 
 -- ---- the steps
 

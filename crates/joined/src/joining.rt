@@ -1,6 +1,5 @@
 ghost use Rattle.std.specs.Prelude.{◌≡◌, ◌≤◌, length, vec_capacity, filter, Decides};
 ghost use Rattle.tree_laws.specs.Distances.{join_of, reach_of};
-ghost use Rattle.tree.specs.Tables.{rows_of};
 ghost use Rattle.build_laws.specs.Joining.{others};
 ghost use Rattle.joined.specs.Joinings.{AllHang, Asked, Joinable, JoinedBy, Rising, Standing, Stepped};
 
@@ -30,14 +29,14 @@ fn rises(members: &[usize]) -> bool
 
 /// Whether each member is a row that hangs on the driver.
 fn all_hang(table: &Table, members: &[usize]) -> bool
-    ensures { Decides result (AllHang (rows_of table.now) members.now) }
+    ensures { Decides result (AllHang table.now.rows members.now) }
 {
     members.iter().all(|&member| hangs(table, 0, member))
 }
 
 /// Whether the members are rows that hang on the driver, in rising order, with room for a new row for each.
 fn joinable(table: &Table, members: &[usize]) -> bool
-    ensures { Asked (rows_of table.now) members.now result }
+    ensures { Asked table.now.rows members.now result }
 {
     members.len() <= ROWS - table.len() && rises(members) && all_hang(table, members)
 }
@@ -74,8 +73,8 @@ impl Joiner {
 
     /// Makes the members the group and finds the first pair of each.
     fn begin<S: Joining>(&mut self, space: &S, table: &Table, members: &[usize])
-        requires { Joinable (rows_of table.now) members.now }
-        ensures standing { Standing (reach_of S.Space space.now) (join_of S.Space S.Joining.own space.now) (rows_of table.now) self.new.group.items self.new.partners.items }
+        requires { Joinable table.now.rows members.now }
+        ensures standing { Standing (reach_of S.Space space.now) (join_of S.Space S.Joining.own space.now) table.now.rows self.new.group.items self.new.partners.items }
         ensures members { self.new.group.items ≡ members.now }
     {
         fill(&mut self.group, members);
@@ -90,8 +89,8 @@ impl Joiner {
     /// Joins the first pair of all, and answers whether there is one whose meet is not 0 from the driver.
     // Kept: a plain yes or no, which the loop in `join` asks; an `Option<()>` would say no more, and its `?` would save two lines.
     fn step<S: Joining>(&mut self, space: &S, table: &mut Table) -> bool
-        requires { Standing (reach_of S.Space space.now) (join_of S.Space S.Joining.own space.now) (rows_of table.old) self.old.group.items self.old.partners.items }
-        ensures { Stepped (reach_of S.Space space.now) (join_of S.Space S.Joining.own space.now) (rows_of table.old) self.old.group.items result (rows_of table.new) self.new.group.items self.new.partners.items }
+        requires { Standing (reach_of S.Space space.now) (join_of S.Space S.Joining.own space.now) table.old.rows self.old.group.items self.old.partners.items }
+        ensures { Stepped (reach_of S.Space space.now) (join_of S.Space S.Joining.own space.now) table.old.rows self.old.group.items result table.new.rows self.new.group.items self.new.partners.items }
     {
         let Some(pair) = first(self.partners.as_slice()) else {
             return false;

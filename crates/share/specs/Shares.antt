@@ -11,7 +11,6 @@ use Rattle.tree_laws.specs.Distances.{Measured, join_of, reach_of}
 use Rattle.tree_laws.specs.Shares.{ShareMove, share_before, shared_by}
 use Rattle.tree_laws.specs.Trees.{Child, Hung, between, path_length, spot_of, wire_of}
 use Rattle.tree.specs.declared.table.Table.{Table}
-use Rattle.tree.specs.Tables.{rows_of}
 use Rattle.share.specs.declared.sharing.Unshared.{Unshared}
 use Rattle.share.specs.declared.sharing.Unshared.TheVariants.{Nothing, Full}
 
@@ -45,11 +44,11 @@ pub record NoRoom {X : Type 0} (G : Ghosts X) (J : JoinGhosts X) (s : X) (rows :
 -- Asked to make the best share move on the table t₀, the answer is r, and the table is t then.
 abbrev pub Shared : {X : Type 0} → Ghosts X → JoinGhosts X → X → (t₀ : Table) → Result ℕ Unshared → (t : Table) → Type 0
 Shared G J s t₀ (Err Nothing) t =
-    BestOf share_before (ShareMove (rows_of t₀) (reach_of G s) (join_of G J s)) None
-    × (Measured G s (rows_of t₀) → BestOf share_before (ShareMove (rows_of t₀) (G.between s) (J.meeting s)) None)
+    BestOf share_before (ShareMove t₀.rows (reach_of G s) (join_of G J s)) None
+    × (Measured G s t₀.rows → BestOf share_before (ShareMove t₀.rows (G.between s) (J.meeting s)) None)
     × (t ≡ t₀)
-Shared G J s t₀ (Err Full) t = NoRoom G J s (rows_of t₀) × (t ≡ t₀)
-Shared G J s t₀ (Ok w) t = Saved G J s (rows_of t₀) w (rows_of t)
+Shared G J s t₀ (Err Full) t = NoRoom G J s t₀.rows × (t ≡ t₀)
+Shared G J s t₀ (Ok w) t = Saved G J s t₀.rows w t.rows
 
 -- ---- parting
 
@@ -76,8 +75,8 @@ parted_by rows d j v a b =
 
 -- Asked to put the meet of a and b between v and both, the answer is r, and the table t₀ is t then.
 abbrev pub Parted : (Spot → Spot → ℕ) → (Spot → Spot → Spot → Spot) → (t₀ : Table) → (v a b : ℕ) → Option ℕ → (t : Table) → Type 0
-Parted d j t₀ v a b None t = (Parts (rows_of t₀) v a b → ⊥) × (t ≡ t₀)
-Parted d j t₀ v a b (Some k) t = Parts (rows_of t₀) v a b × (k ≡ length (rows_of t₀)) × (rows_of t ≡ parted_by (rows_of t₀) d j v a b)
+Parted d j t₀ v a b None t = (Parts t₀.rows v a b → ⊥) × (t ≡ t₀)
+Parted d j t₀ v a b (Some k) t = Parts t₀.rows v a b × (k ≡ length t₀.rows) × (t.rows ≡ parted_by t₀.rows d j v a b)
 
 -- ---- the search
 

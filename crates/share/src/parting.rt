@@ -1,6 +1,5 @@
 ghost use Rattle.std.specs.Prelude.{◌≡◌};
 ghost use Rattle.tree_laws.specs.Distances.{join_of, reach_of};
-ghost use Rattle.tree.specs.Tables.{rows_of};
 ghost use Rattle.share.specs.Shares.{Hanging, Parted};
 
 use space::{Joining, Spot};
@@ -15,7 +14,7 @@ pub fn join<S: Joining>(space: &S, o: Spot, a: Spot, b: Spot) -> Spot
 
 /// Whether the row `c` hangs on `v`.
 pub fn hangs(table: &Table, v: usize, c: usize) -> bool
-    ensures { Hanging (rows_of table.now) v c result }
+    ensures { Hanging table.now.rows v c result }
 {
     c != 0 && table.row(c).is_some_and(|row| row.parent == v)
 }

@@ -2,7 +2,6 @@ ghost use Rattle.std.specs.Prelude.{◌≡◌};
 ghost use Rattle.order.specs.Bests.{BestOf};
 ghost use Rattle.tree_laws.specs.Distances.{join_of, reach_of};
 ghost use Rattle.tree_laws.specs.Shares.{ShareMove, share_before};
-ghost use Rattle.tree.specs.Tables.{rows_of};
 ghost use Rattle.share.specs.Shares.{ShareAt, Shared};
 
 use crate::parting::{join, part};
@@ -30,7 +29,7 @@ struct Search<'a, S: Joining> {
 impl<'a, S: Joining> Search<'a, S> {
     /// The move of the rows `a` and `b`, where it is one.
     fn weigh(&self, a: usize, b: usize) -> Option<Share>
-        ensures { BestOf share_before (ShareAt (rows_of self.now.table.now) (reach_of S.Space self.now.space.now) (join_of S.Space S.Joining.own self.now.space.now) a b) result }
+        ensures { BestOf share_before (ShareAt self.now.table.now.rows (reach_of S.Space self.now.space.now) (join_of S.Space S.Joining.own self.now.space.now) a b) result }
     {
         if a == 0 {
             return None;
@@ -55,7 +54,7 @@ impl<'a, S: Joining> Search<'a, S> {
 
     /// The first of all moves.
     fn best(&self) -> Option<Share>
-        ensures { BestOf share_before (ShareMove (rows_of self.now.table.now) (reach_of S.Space self.now.space.now) (join_of S.Space S.Joining.own self.now.space.now)) result }
+        ensures { BestOf share_before (ShareMove self.now.table.now.rows (reach_of S.Space self.now.space.now) (join_of S.Space S.Joining.own self.now.space.now)) result }
     {
         let rows = self.table.len();
         first_of_pairs(rows, rows, |a, b| self.weigh(a, b))

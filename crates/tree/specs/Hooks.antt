@@ -8,7 +8,6 @@ use Rattle.tree_laws.specs.Distances.{Settled, apart, distance_of}
 use Rattle.tree_laws.specs.Hooks.{HookMove, hook_before}
 use Rattle.tree_laws.specs.Trees.{Hung, hang, path_length, wire_of}
 use Rattle.tree.specs.declared.table.Table.{Table}
-use Rattle.tree.specs.Tables.{rows_of}
 
 -- ---- the answer
 
@@ -26,12 +25,12 @@ pub record Saved (rows : List Row) (d : ℕ → ℕ → ℕ) (w : ℕ) (after : 
 -- distances wherever the rows are such as a net can have.
 abbrev pub Hooked : {X : Type 0} → Ghosts X → X → (t₀ : Table) → Option ℕ → (t : Table) → Type 0
 Hooked G s t₀ None t =
-    BestOf hook_before (HookMove (rows_of t₀) (apart G s (rows_of t₀))) None
-    × (Settled G s (rows_of t₀) → BestOf hook_before (HookMove (rows_of t₀) (distance_of G s (rows_of t₀))) None)
+    BestOf hook_before (HookMove t₀.rows (apart G s t₀.rows)) None
+    × (Settled G s t₀.rows → BestOf hook_before (HookMove t₀.rows (distance_of G s t₀.rows)) None)
     × (t ≡ t₀)
 Hooked G s t₀ (Some w) t =
-    Saved (rows_of t₀) (apart G s (rows_of t₀)) w (rows_of t)
-    × (Settled G s (rows_of t₀) → Saved (rows_of t₀) (distance_of G s (rows_of t₀)) w (rows_of t) × Settled G s (rows_of t))
+    Saved t₀.rows (apart G s t₀.rows) w t.rows
+    × (Settled G s t₀.rows → Saved t₀.rows (distance_of G s t₀.rows) w t.rows × Settled G s t.rows)
 
 -- ---- the search
 

@@ -1,2 +1,3 @@
+pub mod TableValue
 pub mod Tables
 pub mod Hooks

@@ -7,5 +7,5 @@ mod table;
 
 pub use refining::{hook_best, reach};
 pub use space::LONGEST;
-pub use table::{ROWS, Refusal, Table};
+pub use table::{HangFault, ROWS, Table};
 pub use tree_laws::{Hook, Row};

@@ -2,7 +2,6 @@ use Rattle.std.proofs.Common.{◌≡◌, ℕ, ◌<◌, List, [], ◌∷◌, ◌+
 use Rattle.order.specs.Firsts.{FirstOf}
 use Rattle.build_laws.specs.Joining.{far_of, others}
 use Rattle.tree_laws.specs.Distances.{join_of, reach_of}
-use Rattle.tree.specs.Tables.{rows_of}
 use Rattle.build_laws.specs.declared.pair.Pair.{Pair}
 use Rattle.joined.specs.Pairs.{Firsts}
 use Rattle.build_laws.specs.Pairs.{pair_before}
@@ -13,7 +12,7 @@ use Rattle.joined.proofs.joining.Joiner.step.Goals as goal
 
 pub returns-in_default : goal.returns-in_default
 returns-in_default g c =
-    let rows = rows_of c.args.table.now in
+    let rows = c.args.table.now.rows in
     let d = reach_of g.S.Space c.args.space.now in
     let j = join_of g.S.Space g.S.Joining c.args.space.now in
     let group = vec_items c.args.self.now.group in
@@ -23,7 +22,7 @@ returns-in_default g c =
 
 pub returns-then-pair-eq0 : goal.returns-then-pair-eq0
 returns-then-pair-eq0 g c =
-    let rows = rows_of c.args.table.now in
+    let rows = c.args.table.now.rows in
     let d = reach_of g.S.Space c.args.space.now in
     let j = join_of g.S.Space g.S.Joining c.args.space.now in
     let group = vec_items c.args.self.now.group in
@@ -35,7 +34,7 @@ returns-then-pair-eq0 g c =
 pub returns-in_default-part : goal.returns-in_default-part
 returns-in_default-part g c =
     let t = c.args.table.now in
-    let rows = rows_of t in
+    let rows = t.rows in
     let d = reach_of g.S.Space c.args.space.now in
     let j = join_of g.S.Space g.S.Joining c.args.space.now in
     let group = vec_items c.args.self.now.group in
@@ -62,7 +61,7 @@ push_reserved-requires g c =
 pub invariant_of-group-clause-few : goal.invariant_of-group-clause-few
 invariant_of-group-clause-few g c =
     let t = c.args.table.now in
-    let rows = rows_of t in
+    let rows = t.rows in
     let d = reach_of g.S.Space c.args.space.now in
     let j = join_of g.S.Space g.S.Joining c.args.space.now in
     let group = vec_items c.args.self.now.group in
@@ -74,12 +73,12 @@ invariant_of-group-clause-few g c =
     let left = c.as_slice-2.result.now in
     let e : left ≡ filter (others p.a p.b) group ++ c.in-Some-part.new ∷ [] =
     c.as_slice-2.ensures.value ∙ c.push_reserved.ensures.items ∙ ap (λ xs. xs ++ c.in-Some-part.new ∷ []) c.leave.ensures.items in
-    omega (arith, shorter_at d j rows t.tree group F c.requires p.a p.b best.0.pair (rows_of c.part.new.table) left c.in-Some-part.new parted.2 parted.1 e, c.requires.room)
+    omega (arith, shorter_at d j rows t.tree group F c.requires p.a p.b best.0.pair c.part.new.table.rows left c.in-Some-part.new parted.2 parted.1 e, c.requires.room)
 
 pub invariant_of-group-clause-rising : goal.invariant_of-group-clause-rising
 invariant_of-group-clause-rising g c =
     let t = c.args.table.now in
-    let rows = rows_of t in
+    let rows = t.rows in
     let d = reach_of g.S.Space c.args.space.now in
     let j = join_of g.S.Space g.S.Joining c.args.space.now in
     let group = vec_items c.args.self.now.group in
@@ -91,12 +90,12 @@ invariant_of-group-clause-rising g c =
     let left = c.as_slice-2.result.now in
     let e : left ≡ filter (others p.a p.b) group ++ c.in-Some-part.new ∷ [] =
     c.as_slice-2.ensures.value ∙ c.push_reserved.ensures.items ∙ ap (λ xs. xs ++ c.in-Some-part.new ∷ []) c.leave.ensures.items in
-    rising_at d j rows t.tree group F c.requires p.a p.b best.0.pair (rows_of c.part.new.table) left c.in-Some-part.new parted.2 parted.1 e
+    rising_at d j rows t.tree group F c.requires p.a p.b best.0.pair c.part.new.table.rows left c.in-Some-part.new parted.2 parted.1 e
 
 pub renew-requires-clause-ready : goal.renew-requires-clause-ready
 renew-requires-clause-ready g c =
     let t = c.args.table.now in
-    let rows = rows_of t in
+    let rows = t.rows in
     let d = reach_of g.S.Space c.args.space.now in
     let j = join_of g.S.Space g.S.Joining c.args.space.now in
     let group = vec_items c.args.self.now.group in
@@ -108,12 +107,12 @@ renew-requires-clause-ready g c =
     let left = c.as_slice-2.result.now in
     let e : left ≡ filter (others p.a p.b) group ++ c.in-Some-part.new ∷ [] =
     c.as_slice-2.ensures.value ∙ c.push_reserved.ensures.items ∙ ap (λ xs. xs ++ c.in-Some-part.new ∷ []) c.leave.ensures.items in
-    ready_at d j rows t.tree group F c.requires p.a p.b best.0.pair (rows_of c.part.new.table) left c.in-Some-part.new parted.2 parted.1 e F refl
+    ready_at d j rows t.tree group F c.requires p.a p.b best.0.pair c.part.new.table.rows left c.in-Some-part.new parted.2 parted.1 e F refl
 
 pub returns : goal.returns
 returns g c =
     let t = c.args.table.now in
-    let rows = rows_of t in
+    let rows = t.rows in
     let d = reach_of g.S.Space c.args.space.now in
     let j = join_of g.S.Space g.S.Joining c.args.space.now in
     let group = vec_items c.args.self.now.group in
@@ -126,9 +125,9 @@ returns g c =
     let G = vec_items c.renew.new.partners in
     let e : left ≡ filter (others p.a p.b) group ++ c.in-Some-part.new ∷ [] =
     c.push_reserved.ensures.items ∙ ap (λ xs. xs ++ c.in-Some-part.new ∷ []) c.leave.ensures.items in
-    let Q : List ℕ → Type 0 = λ xs. Firsts d j (rows_of c.part.new.table) xs G in
+    let Q : List ℕ → Type 0 = λ xs. Firsts d j c.part.new.table.rows xs G in
     let far : 0 < far_of d j rows p.a p.b = omega (arith, best.0.long, c.if-pair-eq0.false) in
-    stepped_at d j rows t.tree group F c.requires p.a p.b best.0.pair (rows_of c.part.new.table) left c.in-Some-part.new parted.2 parted.1 e G
+    stepped_at d j rows t.tree group F c.requires p.a p.b best.0.pair c.part.new.table.rows left c.in-Some-part.new parted.2 parted.1 e G
     (subst Q c.as_slice-2.ensures.value c.renew.ensures.firsts)
     c.renew.ensures.few
     (best_farthest d j rows group p best)
