@@ -7,7 +7,7 @@ use Rattle.order.specs.Firsts.{Among}
 use Rattle.space.specs.declared.spot.Spot.{Spot}
 use Rattle.tree_laws.specs.declared.Row.{Row}
 use Rattle.tree_laws.specs.Trees.{Child, Tree}
-use Rattle.share.specs.Shares.{Parts}
+use Rattle.share.specs.Meets.{Insertable}
 use Rattle.build_laws.specs.Joining.{Farthest, PairOf, far_of, meet_group, meet_row, others}
 use Rattle.build_laws.specs.Joining.Joins.{join}
 use Rattle.build_laws.specs.declared.pair.Pair.{Pair}
@@ -87,7 +87,7 @@ module _ (d : Spot → Spot → ℕ) (j : Spot → Spot → Spot → Spot) (rows
 -- ---- what a step needs and keeps
 
 module _ (d : Spot → Spot → ℕ) (j : Spot → Spot → Spot → Spot) (rows : List Row) (t : Tree rows) (group : List ℕ) (F : List Pair) (s : Standing d j rows group F) (a b : ℕ) (q : PairOf d j group a b) where
-  pub step_parts : Parts rows 0 a b
+  pub step_parts : Insertable rows 0 a b
   step_parts =
       record {
         first = s.hung a q.first;

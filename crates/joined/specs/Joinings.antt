@@ -8,6 +8,7 @@ use Rattle.space.specs.declared.spot.Spot.{Spot}
 use Rattle.tree_laws.specs.declared.Row.{Row}
 use Rattle.tree_laws.specs.Trees.{Child, Hung, wire_of}
 use Rattle.tree.specs.declared.table.Table.{Table}
+use Rattle.tree.specs.declared.table.TheConstants.{ROWS}
 use Rattle.tree_laws.specs.Distances.{Measured, join_of, reach_of}
 use Rattle.build_laws.specs.Joining.{Joins, Kept, PairOf, far_of}
 use Rattle.build_laws.specs.declared.pair.Pair.{Pair}
@@ -27,12 +28,7 @@ AllHang rows group = (g : ℕ) → Among g group → Child rows 0 g
 pub record Joinable (rows : List Row) (group : List ℕ) : Type 0 where
   pub rising : Rising group
   pub hung : AllHang rows group
-  pub room : length rows + length group ≤ 768
-
--- Asked whether the members can be joined, the answer is r.
-abbrev pub Asked : List Row → List ℕ → Bool → Type 0
-Asked rows group true = Joinable rows group
-Asked rows group false = Joinable rows group → ⊥
+  pub room : length rows + length group ≤ ROWS
 
 -- ---- the answer
 
@@ -62,7 +58,7 @@ module _ (d : Spot → Spot → ℕ) (j : Spot → Spot → Spot → Spot) where
   pub record Standing (rows : List Row) (group : List ℕ) (F : List Pair) : Type 0 where
     pub hung : (g : ℕ) → Among g group → Child rows 0 g
     pub rising : Rising group
-    pub room : length rows + length group ≤ 768
+    pub room : length rows + length group ≤ ROWS
     pub few : length F < length rows
     pub firsts : Firsts d j rows group F
 

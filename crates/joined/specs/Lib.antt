@@ -1,2 +1,4 @@
 pub mod Joinings
+pub mod Joiners
 pub mod Pairs
+pub mod Groups

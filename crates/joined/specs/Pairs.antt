@@ -5,6 +5,7 @@ use Rattle.order.specs.Firsts.{Among}
 use Rattle.space.specs.declared.spot.Spot.{Spot}
 use Rattle.tree_laws.specs.declared.Row.{Row}
 use Rattle.order.specs.Bests.{BestOf}
+use Rattle.tree.specs.declared.table.TheConstants.{ROWS}
 use Rattle.build_laws.specs.Joining.{PairOf, far_of}
 use Rattle.build_laws.specs.declared.pair.Pair.{Pair}
 use Rattle.build_laws.specs.Pairs.{pair_before}
@@ -60,9 +61,9 @@ module _ (d : Spot → Spot → ℕ) (j : Spot → Spot → Spot → Spot) where
     pub near : (old.b ≢ a) → (old.b ≢ b) → NoFarther rows group old.b old.far
 
   -- The first pair of the member of an old pair, unless it has gone.
-  abbrev pub Again : List Row → List ℕ → (a b : ℕ) → Pair → Option Pair → Type 0
-  Again rows group a b old None = (old.b ≢ a) → (old.b ≢ b) → (p : Pair) → Partner rows group old.b p → ⊥
-  Again rows group a b old (Some w) = Held rows group w × (w.b ≡ old.b)
+  abbrev pub Renewed : List Row → List ℕ → (a b : ℕ) → Pair → Option Pair → Type 0
+  Renewed rows group a b old None = (old.b ≢ a) → (old.b ≢ b) → (p : Pair) → Partner rows group old.b p → ⊥
+  Renewed rows group a b old (Some w) = Held rows group w × (w.b ≡ old.b)
 
   -- A number that has an old pair and has not gone.
   abbrev pub Lasting : (a b : ℕ) → List Pair → ℕ → Type 0
@@ -73,4 +74,4 @@ module _ (d : Spot → Spot → ℕ) (j : Spot → Spot → Spot → Spot) where
     pub stale : (old : Pair) → Among old F → Stale rows group a b old
     pub member : Among new group
     pub all : (x : ℕ) → Among x group → (p : Pair) → Partner rows group x p → (x ≡ new) ⊎ Lasting a b F x
-    pub few : length F < 768
+    pub few : length F < ROWS

@@ -9,8 +9,8 @@ use Rattle.share.specs.Shares.{Saved, Shared}
 use Rattle.tree_laws.specs.Distances.{join_of, reach_of}
 use Rattle.tree_laws.specs.Shares.{meet_of, shared_by}
 use Rattle.tree_laws.specs.declared.share.Share.{Share}
-use Rattle.share.specs.declared.sharing.Unshared.{Unshared}
-use Rattle.share.specs.declared.sharing.Unshared.TheVariants.{Nothing, Full}
+use Rattle.share.specs.declared.sharing.ShareFault.{ShareFault}
+use Rattle.share.specs.declared.sharing.ShareFault.TheVariants.{Nothing, Full}
 use Rattle.space.specs.declared.Joining.{Ghosts as JoinGhosts}
 use Rattle.space.specs.declared.Space.{Ghosts}
 use Rattle.space.specs.declared.spot.Spot.{Spot}
@@ -65,7 +65,7 @@ share_saves G J s b t₀ t w up h =
     )
 
 -- a share move that is refused leaves the table as it was
-pub refused_same : {X : Type 0} (G : Ghosts X) (J : JoinGhosts X) (s : X) (t₀ : Table) (r : Result ℕ Unshared) (t : Table) → Shared G J s t₀ r t → is_err r ≡ true → t ≡ t₀
+pub refused_same : {X : Type 0} (G : Ghosts X) (J : JoinGhosts X) (s : X) (t₀ : Table) (r : Result ℕ ShareFault) (t : Table) → Shared G J s t₀ r t → is_err r ≡ true → t ≡ t₀
 refused_same G J s t₀ (Err Nothing) t h e = h.2
 refused_same G J s t₀ (Err Full) t h e = h.1
 refused_same G J s t₀ (Ok w) t h e = let z : ◌≡◌ {A = ℕ} 0 1 = cc in absurd (omega arith)

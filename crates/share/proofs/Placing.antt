@@ -12,14 +12,14 @@ use Rattle.tree.specs.Tables.{Changed}
 use Rattle.tree.proofs.Hooking.{changed_hangs}
 use Rattle.tree_laws.specs.declared.share.Share.{Share}
 use Rattle.tree_laws.specs.Shares.{ShareMove}
-use Rattle.share.specs.Shares.{Parts}
+use Rattle.share.specs.Meets.{Insertable}
 
 -- a row that has a child is a row
 pub parent_row : (t : Table) (v c : ℕ) → Child t.rows v c → v < length t.rows
 parent_row t v c k = let P : ℕ → Type 0 = λ x. x < length t.rows in subst P k.parent (t.tree.parents c k.row)
 
 -- a table that has no room for the row of a move is full
-pub full_table : (t : Table) (d : Spot → Spot → ℕ) (j : Spot → Spot → Spot → Spot) (m : Share) → ShareMove t.rows d j m → (Parts t.rows m.v m.a m.b → ⊥) → length t.rows ≡ 768
+pub full_table : (t : Table) (d : Spot → Spot → ℕ) (j : Spot → Spot → Spot → Spot) (m : Share) → ShareMove t.rows d j m → (Insertable t.rows m.v m.a m.b → ⊥) → length t.rows ≡ 768
 full_table t d j m q never =
     ⊎_elim
     (λ (h : length t.rows < 768). absurd (never (record { first = q.first; second = q.second; other = λ e. omega (arith, q.order, e); room = h })))

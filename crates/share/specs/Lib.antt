@@ -1,1 +1,3 @@
+pub mod Meets
 pub mod Shares
+pub mod Searches

@@ -2,7 +2,7 @@
 ghost use Rattle.std.specs.Prelude.{◌≡◌, ◌≤◌, map, length, vec_capacity, slice_index_or};
 ghost use Rattle.tree_laws.specs.Distances.{reach_of};
 ghost use Rattle.walk.specs.Marks.{directs, idle, marks, rules_of};
-ghost use Rattle.walk.specs.Tables.{as.rows walkRows};
+ghost use Rattle.walk.specs.Tables.{rows_of as walkRows};
 ghost use Rattle.straight.specs.Built.{breakpoints_of, spot_at};
 ghost use Rattle.straight.specs.Laying.{Falling, Laying, directs_of};
 

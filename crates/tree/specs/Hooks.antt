@@ -31,9 +31,3 @@ Hooked G s t₀ None t =
 Hooked G s t₀ (Some w) t =
     Saved t₀.rows (apart G s t₀.rows) w t.rows
     × (Settled G s t₀.rows → Saved t₀.rows (distance_of G s t₀.rows) w t.rows × Settled G s t.rows)
-
--- ---- the search
-
--- A move of v on u.
-abbrev pub MoveAt : List Row → (ℕ → ℕ → ℕ) → (v u : ℕ) → Hook → Type 0
-MoveAt rows d v u m = HookMove rows d m × (m.v ≡ v) × (m.u ≡ u)

@@ -1,3 +1,4 @@
 pub mod TableValue
 pub mod Tables
 pub mod Hooks
+pub mod Searches

@@ -1,13 +1,22 @@
 -- What a table holds, and what its changes answer. Assumes nothing.
-use Rattle.std.specs.Prelude.{◌≡◌, ℕ, ◌<◌, ◌≤◌, true, List, length, Some, None, Ok, Err, Option, Result, slice_index, ◌≢◌}
+use Rattle.std.specs.Prelude.{◌≡◌, ℕ, ◌<◌, ◌≤◌, true, List, length, Some, None, Ok, Err, Option, Result, slice_index, nat_lt, ◌≢◌}
+use Rattle.space.specs.Laws.{answered}
 use Rattle.space.specs.declared.TheConstants.{LONGEST}
 use Rattle.space.specs.declared.spot.Spot.{Spot}
 use Rattle.tree_laws.specs.declared.Row.{Row}
-use Rattle.tree_laws.specs.Trees.{Hangs, add, hang, path_length, under}
+use Rattle.tree_laws.specs.Trees.{Hangs, add, hang, path_length, row_of, under}
 use Rattle.tree.specs.declared.table.HangFault.{HangFault}
 use Rattle.tree.specs.declared.table.HangFault.TheVariants.{Driver, NoRow, NoParent, TooLong, Below}
 use Rattle.tree.specs.declared.table.Table.{Table}
 use Rattle.tree.specs.declared.table.TheConstants.{ROWS}
+
+-- The row k; nothing past the end.
+abbrev pub row_at : List Row → ℕ → Option Row
+row_at rows k = answered (nat_lt k (length rows)) (row_of rows k)
+
+-- The path of the row k; nothing past the end.
+abbrev pub path_at : List Row → ℕ → Option ℕ
+path_at rows k = answered (nat_lt k (length rows)) (path_length rows k)
 
 -- The first numbers are the paths of the rows.
 pub record Paths (rows : List Row) (ps : List ℕ) : Type 0 where

@@ -1,9 +1,7 @@
 ghost use Rattle.std.specs.Prelude.{◌≡◌, ◌≤◌};
-ghost use Rattle.order.specs.Bests.{BestOf};
 ghost use Rattle.space.specs.declared.TheConstants.{LONGEST};
-ghost use Rattle.tree_laws.specs.Distances.{Measured, apart, reach_of};
-ghost use Rattle.tree_laws.specs.Hooks.{HookMove, hook_before};
-ghost use Rattle.tree.specs.Hooks.{Hooked, MoveAt};
+ghost use Rattle.tree_laws.specs.Distances.{Measured, reach_of};
+ghost use Rattle.tree.specs.Hooks.{Hooked};
 ghost use Rattle.tree.specs.Tables.{Paths};
 
 use crate::table::{ROWS, Table};
@@ -29,9 +27,13 @@ struct HookSearch<'a, S: Space> {
 }
 
 impl<'a, S: Space> HookSearch<'a, S> {
+    ghost use Rattle.order.specs.Bests.{BestOf};
+    ghost use Rattle.tree_laws.specs.Hooks.{hook_before};
+    ghost use Rattle.tree.specs.Searches.{MoveAt, MoveIn};
+
     /// The move that hangs `v` on `u`, where it is one.
     fn weigh(&self, v: usize, u: usize) -> Option<Hook>
-        ensures { BestOf hook_before (MoveAt self.now.table.now.rows (apart S.Space self.now.space.now self.now.table.now.rows) v u) result }
+        ensures { BestOf hook_before (MoveAt S.Space self.now v u) result }
     {
         let old = self.table.row(v)?;
         let parent = self.table.row(u)?;
@@ -54,7 +56,7 @@ impl<'a, S: Space> HookSearch<'a, S> {
 
     /// The first of all moves.
     fn best(&self) -> Option<Hook>
-        ensures { BestOf hook_before (HookMove self.now.table.now.rows (apart S.Space self.now.space.now self.now.table.now.rows)) result }
+        ensures { BestOf hook_before (MoveIn S.Space self.now) result }
     {
         let rows = self.table.len();
         first_of_pairs(rows, rows, |v, u| self.weigh(v, u))
@@ -64,7 +66,9 @@ impl<'a, S: Space> HookSearch<'a, S> {
 /// Makes the best hook move of the table and answers what it saves; nothing, with the table as it was, where no move saves 1 or more.
 pub fn hook_best<S: Space>(space: &S, table: &mut Table) -> Option<u64>
     ensures answer { Hooked S.Space space.now table.old result table.new }
-    ensures measured { Measured S.Space space.now table.old.rows → Measured S.Space space.now table.new.rows }
+    ensures measured {
+        Measured S.Space space.now table.old.rows → Measured S.Space space.now table.new.rows
+    }
 {
     let search = HookSearch {
         space,

@@ -58,10 +58,9 @@ impl Model for Table {
 }
 
 impl Table {
-    ghost use Rattle.std.specs.Prelude.{◌<◌, IfOk, nat_lt};
-    ghost use Rattle.space.specs.Laws.{answered};
-    ghost use Rattle.tree_laws.specs.Trees.{Hung, path_length, row_of, under, wire_of};
-    ghost use Rattle.tree.specs.Tables.{Added, Changed, Hanging, Paths};
+    ghost use Rattle.std.specs.Prelude.{◌<◌, IfOk};
+    ghost use Rattle.tree_laws.specs.Trees.{Hung, row_of, under, wire_of};
+    ghost use Rattle.tree.specs.Tables.{Added, Changed, Hanging, Paths, path_at, row_at};
 
     /// The driver alone, with room for `ROWS` rows.
     pub fn new(heap: Global, driver: Spot) -> Result<Table, AllocError>
@@ -89,7 +88,7 @@ impl Table {
 
     /// The row `k`; nothing where there is none.
     pub fn row(&self, k: usize) -> Option<Row>
-        ensures { result ≡ answered (nat_lt k (length self.now.rows)) (row_of self.now.rows k) }
+        ensures { result ≡ row_at self.now.rows k }
     {
         self.rows.get(k).copied()
     }
@@ -112,7 +111,7 @@ impl Table {
     /// The path of the row `k`, the sum of the lengths on the one way from the driver down to it; nothing where there is no such row. Costs
     /// a turn for each row of the table.
     pub fn path(&self, k: usize) -> Option<u64>
-        ensures path { result ≡ answered (nat_lt k (length self.now.rows)) (path_length self.now.rows k) }
+        ensures path { result ≡ path_at self.now.rows k }
         ensures way { k < length self.now.rows → Hung self.now.rows k }
     {
         if k >= self.len() {

@@ -6,17 +6,17 @@ ghost use Rattle.net.specs.Nets.{seen};
 
 use super::{Board, Tree};
 use net_laws::Fault;
-use share::{Unshared, share_best};
+use share::{ShareFault, share_best};
 use space::{Joining, Space};
 use tree::hook_best;
 
 /// The refusal of a share move as one of the net.
-fn fault_of(refusal: Unshared) -> Fault
+fn fault_of(refusal: ShareFault) -> Fault
     ensures { result ≡ fault_of refusal }
 {
     match refusal {
-        Unshared::Nothing => Fault::NoMove,
-        Unshared::Full => Fault::TooManyRows,
+        ShareFault::Nothing => Fault::NoMove,
+        ShareFault::Full => Fault::TooManyRows,
     }
 }
 

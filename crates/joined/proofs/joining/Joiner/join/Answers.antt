@@ -1,4 +1,4 @@
-use Rattle.std.proofs.Common.{◌≡◌, List, vec_items, sym, ap, ◌∙◌, subst, arith}
+use Rattle.std.proofs.Common.{◌≡◌, List, vec_items, sym, ap, ◌∙◌, refl, subst, arith}
 use Rattle.build_laws.specs.Joining.{Joins}
 use Rattle.build_laws.specs.Joining.Joins.{done}
 use Rattle.tree_laws.specs.Distances.{join_of, reach_of}
@@ -19,7 +19,7 @@ returns g c =
     let rows = t.rows in
     let after = c.loop-test.table.rows in
     let group = vec_items c.loop.self.group in
-    let fits = c.if-not-joinable.ensures in
+    let fits = c.if-not-joinable.ensures.0 refl in
     let P : List Row → Type 0 = λ xs. Joins d j rows c.args.members.now xs in
     let end = c.loop.invariant.2 c.loop.table.rows in
     let all : P c.loop.table.rows × (after ≡ c.loop.table.rows) =

@@ -1,7 +1,7 @@
 use Rattle.std.proofs.Common.{◌≡◌, ◌+◌, length, vec_items, sym, ◌∙◌, arith}
 use Rattle.seed.specs.Seeds.{edges_of, nodes_of}
 use Rattle.tree_laws.specs.Distances.{reach_of}
-use Rattle.walk.specs.Tables.{as.rows walkRows}
+use Rattle.walk.specs.Tables.{rows_of as walkRows}
 use Rattle.straight.proofs.Spaced.{laid_measures}
 use Rattle.straight.proofs.Whole.{tree_from_test, whole_falls, whole_straight}
 use Rattle.straight.proofs.building.Builder.straight.Goals as goal

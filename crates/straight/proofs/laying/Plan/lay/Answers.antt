@@ -6,7 +6,7 @@ use Rattle.tree.proofs.Hooking.{changed_hangs}
 use Rattle.tree.proofs.Tabled.{tree_of}
 use Rattle.walk.specs.declared.row.Mark.{Mark}
 use Rattle.walk.specs.Marks.{marks, rules_of}
-use Rattle.walk.specs.Tables.{as.rows walkRows}
+use Rattle.walk.specs.Tables.{rows_of as walkRows}
 use Rattle.straight.specs.Built.{spot_at}
 use Rattle.straight.specs.Laying.{Laying}
 use Rattle.straight.proofs.Mixed.{breakpoints_push, breakpoints_same, can_hang, laying_break, laying_hang}

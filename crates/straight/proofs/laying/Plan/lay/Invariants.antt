@@ -1,6 +1,6 @@
 use Rattle.std.proofs.Common.{◌≡◌, ◌≤◌, length, vec_items, vec_len, vec_capacity}
 use Rattle.walk.specs.Marks.{marks, rules_of}
-use Rattle.walk.specs.Tables.{as.rows walkRows}
+use Rattle.walk.specs.Tables.{rows_of as walkRows}
 use Rattle.straight.specs.Built.{breakpoints_of, spot_at}
 use Rattle.straight.specs.Laying.{Laying}
 use Rattle.straight.proofs.laying.Plan.lay.Given as goal

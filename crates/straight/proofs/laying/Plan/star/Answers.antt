@@ -2,7 +2,7 @@ use Rattle.std.proofs.Common.{◌≡◌, ◌+◌, List, sym, subst, arith}
 use Rattle.tree_laws.specs.declared.Row.{Row}
 use Rattle.tree_laws.specs.Trees.{add}
 use Rattle.walk.specs.Marks.{marks, rules_of}
-use Rattle.walk.specs.Tables.{as.rows walkRows}
+use Rattle.walk.specs.Tables.{rows_of as walkRows}
 use Rattle.straight.specs.Built.{spot_at}
 use Rattle.straight.specs.Laying.{Laying}
 use Rattle.straight.proofs.Mixed.{added_rows, laying_add}

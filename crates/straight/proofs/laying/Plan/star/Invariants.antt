@@ -1,5 +1,5 @@
 use Rattle.walk.specs.Marks.{marks, rules_of}
-use Rattle.walk.specs.Tables.{as.rows walkRows}
+use Rattle.walk.specs.Tables.{rows_of as walkRows}
 use Rattle.straight.specs.Built.{spot_at}
 use Rattle.straight.specs.Laying.{Laying}
 use Rattle.straight.proofs.laying.Plan.star.Given as goal
