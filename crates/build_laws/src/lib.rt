@@ -4,10 +4,10 @@
 
 mod pair;
 
-pub use pair::Pair;
-
 ghost use Rattle.build_laws.specs.Joining.{JoiningKeeps};
 ghost use Rattle.build_laws.specs.Straight.{StraightKeeps};
+
+pub use pair::Pair;
 
 /// The straight tree of every finished walk is a tree within the bounds on wire and paths.
 pub fn straight_keeps()

@@ -95,9 +95,8 @@ impl Joiner {
     /// Joins the first pair of all, and answers whether there is one whose meet is not 0 from the driver.
     fn step<S: Joining>(&mut self, space: &S, table: &mut Table) -> bool
         requires { Stands S.Space S.Joining.own space.now table.old.rows self.old }
-        ensures {
-            Steps S.Space S.Joining.own space.now table.old.rows self.old result table.new.rows self.new
-        }
+        ensures { Steps S.Space S.Joining.own space.now table.old.rows self.old result
+            table.new.rows self.new }
     {
         let Some(pair) = first(self.partners.as_slice()) else {
             return false;

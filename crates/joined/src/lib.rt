@@ -5,5 +5,5 @@
 mod joining;
 mod partners;
 
-pub use joining::Joiner;
 pub use build_laws::Pair;
+pub use joining::Joiner;

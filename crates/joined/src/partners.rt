@@ -58,9 +58,8 @@ impl<'a, S: Joining> Group<'a, S> {
     /// The first of the pairs of `b` with a lower member, none of which is farther than `most`. The members rise, so the search ends at a pair
     /// that is as far as that.
     fn first_of(&self, b: usize, most: u64) -> Option<Pair>
-        ensures {
-            NoneFarther S.Space S.Joining.own self.now b most → BestOf pair_before (PartnerIn S.Space S.Joining.own self.now b) result
-        }
+        ensures { NoneFarther S.Space S.Joining.own self.now b most
+            → BestOf pair_before (PartnerIn S.Space S.Joining.own self.now b) result }
     {
         first_until(
             self.members.len(),
@@ -87,10 +86,9 @@ impl<'a, S: Joining> Group<'a, S> {
     /// Makes the first pair of a member what it is after a step, and answers whether there is one: none where the member has gone, else the
     /// pair as it was unless its partner has gone. Then it is searched anew, and is no farther than it was, since fewer lower members are left.
     fn renewed(&self, pair: &mut Pair, change: Change) -> bool
-        ensures {
-            StaleIn S.Space S.Joining.own self.now change pair.old
-                → RenewedIn S.Space S.Joining.own self.now change pair.old (if result then Some pair.new else None)
-        }
+        ensures { StaleIn S.Space S.Joining.own self.now change pair.old
+            → RenewedIn S.Space S.Joining.own self.now change pair.old
+            (if result then Some pair.new else None) }
     {
         let Change { a, b, .. } = change;
         if pair.b == a || pair.b == b {

@@ -66,9 +66,8 @@ impl<'a, S: Space> HookSearch<'a, S> {
 /// Makes the best hook move of the table and answers what it saves; nothing, with the table as it was, where no move saves 1 or more.
 pub fn hook_best<S: Space>(space: &S, table: &mut Table) -> Option<u64>
     ensures answer { Hooked S.Space space.now table.old result table.new }
-    ensures measured {
-        Measured S.Space space.now table.old.rows → Measured S.Space space.now table.new.rows
-    }
+    ensures measured { Measured S.Space space.now table.old.rows
+        → Measured S.Space space.now table.new.rows }
 {
     let search = HookSearch {
         space,

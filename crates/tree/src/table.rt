@@ -50,10 +50,10 @@ impl Model for Table {
     ghost Value = { TableValue };
 
     ghost view = { λ t. record {
-        rows = t.rows.items;
-        few = t.few;
-        lengths = t.lengths;
-        tree = t.tree;
+      rows = t.rows.items;
+      few = t.few;
+      lengths = t.lengths;
+      tree = t.tree;
     } };
 }
 
@@ -153,7 +153,7 @@ impl Table {
     pub fn add(&mut self, u: usize, spot: Spot, length: u64) -> Option<usize>
         ensures { Added self.old u spot length result self.new }
     {
-        let k = self.rows.len();
+        let k = self.len();
         if u >= k || length > LONGEST || k >= ROWS {
             return None;
         }

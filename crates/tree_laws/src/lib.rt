@@ -7,7 +7,6 @@ mod share;
 
 pub use hook::Hook;
 pub use share::Share;
-
 use space::Spot;
 
 /// A row of a tree: the row it hangs on (0 for the driver), its spot, and its distance from its parent (0 for the driver).
