@@ -1,2 +1,4 @@
 pub mod Building
 pub mod Joined
+pub mod Meeting
+pub mod Owning

@@ -8,6 +8,10 @@ use Rattle.space.specs.declared.spot.Spot.{Spot}
 use Rattle.tree_laws.specs.declared.Row.{Row}
 use Rattle.tree_laws.specs.Trees.{Tree, between, length_of, path_length, spot_of, up, wire_of}
 
+-- Neither a nor b.
+abbrev pub others : (a b : ℕ) → ℕ → Bool
+others a b x = not (x == a) && not (x == b)
+
 module _ (d : Spot → Spot → ℕ) (m : Spot → Spot → Spot → Spot) where
   -- The meet of two rows seen from the driver, and how far it is from the driver.
   abbrev pub meet_of : List Row → (a b : ℕ) → Spot
@@ -33,7 +37,7 @@ module _ (d : Spot → Spot → ℕ) (m : Spot → Spot → Spot → Spot) where
       between rows 0 (meet_of rows a b) (far_of rows a b) a (d (meet_of rows a b) (spot_of rows a)) b (d (meet_of rows a b) (spot_of rows b))
 
   abbrev pub meet_group : List ℕ → (a b new : ℕ) → List ℕ
-  meet_group group a b new = filter (λ x. not (x == a) && not (x == b)) group ++ new ∷ []
+  meet_group group a b new = filter (others a b) group ++ new ∷ []
 
   -- The rows become `after`: pair after pair is joined until at most one member is left or the farthest meet is 0 from the driver.
   pub data Joins : List Row → List ℕ → List Row → Type 0 where

@@ -2,8 +2,12 @@
 
 #![tactic(auto)]
 
+mod pair;
+
 ghost use Rattle.build_laws.specs.Joining.{JoiningKeeps};
 ghost use Rattle.build_laws.specs.Straight.{StraightKeeps};
+
+pub use pair::Pair;
 
 /// The straight tree of every finished walk is a tree within the bounds on wire and paths.
 pub fn straight_keeps()

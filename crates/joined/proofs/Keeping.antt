@@ -1,11 +1,10 @@
 -- Members of a list that grows or shrinks. Assumes nothing.
-use Rattle.std.proofs.Common.{◌≡◌, ℕ, suc, ◌+◌, ◌<◌, ◌≤◌, Bool, Decides, MatchBool, true, false, cond, not, eqb, ◌⊎◌, List, [], ◌∷◌, length, get_or, take, filter, sym, refl, ap, subst, inl, inr, ⊎_elim, arith}
+use Rattle.std.proofs.Common.{◌≡◌, ℕ, suc, ◌+◌, ◌<◌, ◌≤◌, Bool, Decides, MatchBool, true, false, ◌⊎◌, List, [], ◌∷◌, length, get_or, take, filter, sym, refl, ap, subst, inl, inr, ⊎_elim, arith}
 use Rattle.std.proofs.lemmas.List.{get_or_default, take_more}
-use Rattle.std.proofs.lemmas.Bool.{and_from, and_left, and_parts, and_right, both_ways, cases_Bool, cond-false, cond-true, eq-eqb, eqb-false, ne_eqb, not_from_false, not_from_true, not-true}
+use Rattle.std.proofs.lemmas.Bool.{both_ways, cases_Bool, cond-false, cond-true}
 use Rattle.std.specs.List.{AllWithin, HoldsAt}
 use Rattle.order.specs.Firsts.{Among}
 use Rattle.order.specs.Firsts.Among.{here, there}
-use Rattle.joined.specs.Joinings.{others}
 use Rattle.order.proofs.Finding.{among_at, among_either, among_none, among_one}
 
 -- what stands in one more of a list is what stood there or the next
@@ -25,17 +24,6 @@ pub among_place : (xs : List ℕ) (x : ℕ) → Among x xs → (i : ℕ) × (i <
 among_place [] x m = elim m [ ]
 among_place (y ∷ xs) x here = (0, omega arith, refl)
 among_place (y ∷ xs) x (there m) = let k = among_place xs x m in (suc k.0, omega (arith, k.1), k.2)
-
--- what passes stays
-pub kept_among : (p : ℕ → Bool) (xs : List ℕ) (x : ℕ) → Among x xs → p x ≡ true → Among x (filter p xs)
-kept_among p [] x m e = elim m [ ]
-kept_among p (y ∷ xs) x here e = let Q : Bool → Type 0 = λ b. Among y (cond b (y ∷ filter p xs) (filter p xs)) in subst Q (sym e) here
-kept_among p (y ∷ xs) x (there m) e =
-    let Q : Bool → Type 0 = λ b. Among x (cond b (y ∷ filter p xs) (filter p xs)) in
-    ⊎_elim
-    (λ (t : p y ≡ true). subst Q (sym t) (there (kept_among p xs x m e)))
-    (λ (t : p y ≡ false). subst Q (sym t) (kept_among p xs x m e))
-    (cases_Bool (p y))
 
 -- how many pass
 kept_yes : (p : ℕ → Bool) (y : ℕ) (xs : List ℕ) → p y ≡ true → length (filter p (y ∷ xs)) ≡ length (filter p xs) + 1
@@ -64,22 +52,6 @@ kept_two_less p (y ∷ xs) a b here here ne e f = absurd (ne refl)
 kept_two_less p (y ∷ xs) a b here (there n) ne e f = omega (arith, kept_no p y xs e, kept_less p xs b n f)
 kept_two_less p (y ∷ xs) a b (there m) here ne e f = omega (arith, kept_no p y xs f, kept_less p xs a m e)
 kept_two_less p (y ∷ xs) a b (there m) (there n) ne e f = omega (arith, kept_one p y xs, kept_two_less p xs a b m n ne e f)
-
--- ---- what is neither a nor b
-
-pub others_yes : (a b x : ℕ) → (x ≡ a → ⊥) → (x ≡ b → ⊥) → others a b x ≡ true
-others_yes a b x na nb = and_from (not (eqb x a)) (not (eqb x b)) (not_from_false _ (ne_eqb x a na)) (not_from_false _ (ne_eqb x b nb))
-
-pub others_first : (a b x : ℕ) → x ≡ a → others a b x ≡ false
-others_first a b x e = and_left (not (eqb x a)) (not (eqb x b)) (not_from_true _ (eq-eqb x a e))
-
-pub others_second : (a b x : ℕ) → x ≡ b → others a b x ≡ false
-others_second a b x e = and_right (not (eqb x a)) (not (eqb x b)) (not_from_true _ (eq-eqb x b e))
-
-pub others_not : (a b x : ℕ) → others a b x ≡ true → (x ≡ a → ⊥) × (x ≡ b → ⊥)
-others_not a b x e =
-    let q = and_parts (not (eqb x a)) (not (eqb x b)) e in
-    (eqb-false x a (not-true _ q.0), eqb-false x b (not-true _ q.1))
 
 -- nothing stands in a list without places
 pub among_empty : (xs : List ℕ) (x : ℕ) → Among x xs → length xs ≡ 0 → ⊥

@@ -9,17 +9,17 @@ use Rattle.order.proofs.Finding.{among_either, among_left, among_none, among_one
 use Rattle.space.specs.declared.Space.{Ghosts}
 use Rattle.space.specs.declared.spot.Spot.{Spot}
 use Rattle.tree_laws.specs.declared.Row.{Row}
-use Rattle.tree.specs.Hooks.{reach_of}
+use Rattle.tree_laws.specs.Distances.{reach_of}
 use Rattle.order.specs.Bests.{BestOf, Decides}
 use Rattle.order.specs.Lexical.{then_above, then_level}
 use Rattle.order.proofs.Deciding.{Below, decides_first}
 use Rattle.build_laws.specs.Joining.{Farthest, PairOf, far_of}
-use Rattle.joined.specs.declared.pair.Pair.{Pair}
-use Rattle.joined.specs.Pairs.{Again, Firsts, FirstsOf, Held, Lasting, NoFarther, PairIn, Partner, PartnerAt, Ready, Stale, pair_before, pair_of}
+use Rattle.build_laws.specs.declared.pair.Pair.{Pair}
+use Rattle.joined.specs.Pairs.{Renewed, Firsts, FirstsOf, Held, Lasting, NoFarther, PairIn, Partner, PartnerAt, Ready, Stale, pair_of}
+use Rattle.build_laws.specs.Pairs.{pair_before, pair_order, same_pair}
 use Rattle.joined.specs.Joinings.{Rising}
 use Rattle.joined.proofs.Keeping.{among_here, among_place}
 use Rattle.joined.proofs.Rising.{rising_later}
-use Rattle.joined.specs.Orders.{pair_order, same_pair}
 
 -- what does not come first is not less
 pub then_lead : (a b : ℕ) (r : Bool) → then_by a b r ≡ false → b ≤ a
@@ -136,8 +136,8 @@ module _ (d : Spot → Spot → ℕ) (j : Spot → Spot → Spot → Spot) (rows
 
   -- ---- the firsts once a and b have gone
 
-  -- each old pair was kept as `Again` says, or left out
-  module _ {S : Type 0} (group : List ℕ) (a b : ℕ) (R : S → Pair → Bool → S → Pair → Type 0) (f : S) (each : (x : Pair) (k : Bool) (t : S) (y : Pair) → R f x k t y → (t ≡ f) × (Stale d j rows group a b x → Again d j rows group a b x (cond k (Some y) None))) where
+  -- each old pair was kept as `Renewed` says, or left out
+  module _ {S : Type 0} (group : List ℕ) (a b : ℕ) (R : S → Pair → Bool → S → Pair → Type 0) (f : S) (each : (x : Pair) (k : Bool) (t : S) (y : Pair) → R f x k t y → (t ≡ f) × (Stale d j rows group a b x → Renewed d j rows group a b x (cond k (Some y) None))) where
     pub renewed : (olds F : List Pair) → RetainsInTurn R f olds F → ((x : Pair) → Among x olds → Stale d j rows group a b x) → FirstsOf d j rows group (Lasting d j a b olds) F
     renewed [] F e stale =
         let P : List Pair → Type 0 = λ xs. FirstsOf d j rows group (Lasting d j a b []) xs in
@@ -153,7 +153,7 @@ module _ (d : Spot → Spot → ℕ) (j : Spot → Spot → Spot → Spot) (rows
         last z (old, here, u, v, w) = inr (sym u)
         last z (old, there i, u, v, w) = inl (old, i, u, v, w)
 
-        next : (k : Bool) → Again d j rows group a b x (cond k (Some y) None) → FirstsOf d j rows group (Lasting d j a b xs) zs → FirstsOf d j rows group (Lasting d j a b (x ∷ xs)) (cond k (y ∷ zs) zs)
+        next : (k : Bool) → Renewed d j rows group a b x (cond k (Some y) None) → FirstsOf d j rows group (Lasting d j a b xs) zs → FirstsOf d j rows group (Lasting d j a b (x ∷ xs)) (cond k (y ∷ zs) zs)
         next true g f =
             record {
               each = λ p i.

@@ -1,27 +1,25 @@
 -- One step of joining: what the group and its first pairs are then. Assumes nothing.
-use Rattle.std.proofs.Common.{◌≡◌, ℕ, ◌+◌, ◌<◌, ◌≤◌, true, ◌⊎◌, List, [], ◌∷◌, ◌++◌, length, get_or, filter, sym, refl, ap, ◌∙◌, subst, inl, inr, ⊎_elim, arith}
+use Rattle.std.proofs.Common.{◌≡◌, ℕ, ◌+◌, ◌<◌, ◌≤◌, true, List, [], ◌∷◌, ◌++◌, length, get_or, filter, sym, refl, ap, ◌∙◌, subst, inl, inr, ⊎_elim, arith}
 use Rattle.std.proofs.lemmas.List.{length_push}
 use Rattle.std.proofs.lemmas.List.Kept.{IsStrictlyIncreasing-filter}
 use Rattle.std.proofs.lemmas.Bool.{cases_eq}
 use Rattle.order.specs.Firsts.{Among}
-use Rattle.order.specs.Firsts.Among.{here}
-use Rattle.order.proofs.Finding.{among_either, among_left, among_one, among_right}
 use Rattle.space.specs.declared.spot.Spot.{Spot}
 use Rattle.tree_laws.specs.declared.Row.{Row}
-use Rattle.tree_laws.specs.Trees.{Child, Tree, row_of, spot_of}
-use Rattle.tree_laws.proofs.Sharing.{between_first, between_length, between_new, between_other, between_second, between_tree}
-use Rattle.share.specs.Shares.{Parts}
-use Rattle.build_laws.specs.Joining.{Farthest, PairOf, far_of, meet_group, meet_of, meet_row}
+use Rattle.tree_laws.specs.Trees.{Child, Tree}
+use Rattle.share.specs.Meets.{Insertable}
+use Rattle.build_laws.specs.Joining.{Farthest, PairOf, far_of, meet_group, meet_row, others}
 use Rattle.build_laws.specs.Joining.Joins.{join}
+use Rattle.build_laws.specs.declared.pair.Pair.{Pair}
 use Rattle.build_laws.proofs.Joined.{among_kept}
-use Rattle.joined.specs.declared.pair.Pair.{Pair}
-use Rattle.joined.specs.Joinings.{Joinable, Rising, Standing, Stepped, others}
+use Rattle.build_laws.proofs.Meeting.{Old, far_kept, member_of, new_member, old_member, others_first, others_second, step_hung, step_length}
+use Rattle.joined.specs.Joinings.{Joinable, Rising, Standing, Stepped}
 use Rattle.joined.specs.Pairs.{Firsts, Partner, Ready}
-use Rattle.joined.proofs.Keeping.{among_here, kept_among, kept_two_less, others_first, others_not, others_second, others_yes}
+use Rattle.joined.proofs.Keeping.{among_here, kept_two_less}
 use Rattle.joined.proofs.Partnering.{then_lead}
 use Rattle.joined.proofs.Rising.{rising_few, rising_push}
 
--- ---- the rows and the group after a step
+-- ---- the group and its pairs after a step
 
 module _ (d : Spot → Spot → ℕ) (j : Spot → Spot → Spot → Spot) (rows : List Row) (t : Tree rows) (group : List ℕ) (hung : (g : ℕ) → Among g group → Child rows 0 g) (a b : ℕ) (q : PairOf d j group a b) where
   abbrev after : List Row
@@ -30,87 +28,8 @@ module _ (d : Spot → Spot → ℕ) (j : Spot → Spot → Spot → Spot) (rows
   abbrev left : List ℕ
   left = meet_group d j group a b (length rows)
 
-  apart : b ≡ a → ⊥
-  apart e = omega (arith, q.ordered)
-
-  abbrev la : ℕ
-  la = d (meet_of d j rows a b) (spot_of rows a)
-
-  abbrev lb : ℕ
-  lb = d (meet_of d j rows a b) (spot_of rows b)
-
-  pub step_tree : Tree after
-  step_tree = between_tree t 0 t.some (meet_of d j rows a b) (far_of d j rows a b) a la b lb (hung a q.first) (hung b q.second) apart
-
-  pub step_length : length after ≡ length rows + 1
-  step_length = between_length t 0 t.some (meet_of d j rows a b) (far_of d j rows a b) a la b lb (hung a q.first) (hung b q.second) apart
-
-  row_same : (k : ℕ) → k < length rows → (k ≡ a → ⊥) → (k ≡ b → ⊥) → row_of after k ≡ row_of rows k
-  row_same = between_other t 0 t.some (meet_of d j rows a b) (far_of d j rows a b) a la b lb (hung a q.first) (hung b q.second) apart
-
-  row_new : row_of after (length rows) ≡ record { parent = 0; spot = meet_of d j rows a b; length = far_of d j rows a b }
-  row_new = between_new t 0 t.some (meet_of d j rows a b) (far_of d j rows a b) a la b lb (hung a q.first) (hung b q.second) apart
-
-  row_first : row_of after a ≡ record { parent = length rows; spot = spot_of rows a; length = la }
-  row_first = between_first t 0 t.some (meet_of d j rows a b) (far_of d j rows a b) a la b lb (hung a q.first) (hung b q.second) apart
-
-  row_second : row_of after b ≡ record { parent = length rows; spot = spot_of rows b; length = lb }
-  row_second = between_second t 0 t.some (meet_of d j rows a b) (far_of d j rows a b) a la b lb (hung a q.first) (hung b q.second) apart
-
-  spot_kept : (k : ℕ) → k < length rows → spot_of after k ≡ spot_of rows k
-  spot_kept k h =
-      ⊎_elim
-      (λ (e : k ≡ a). ap (spot_of after) e ∙ ap (λ (r : Row). r.spot) row_first ∙ ap (spot_of rows) (sym e))
-      (λ (na : k ≡ a → ⊥).
-      ⊎_elim
-      (λ (e : k ≡ b). ap (spot_of after) e ∙ ap (λ (r : Row). r.spot) row_second ∙ ap (spot_of rows) (sym e))
-      (λ (nb : k ≡ b → ⊥). ap (λ (r : Row). r.spot) (row_same k h na nb))
-      (cases_eq k b))
-      (cases_eq k a)
-
-  -- old rows are as far as they were
-  far_kept : (x y : ℕ) → x < length rows → y < length rows → far_of d j after x y ≡ far_of d j rows x y
-  far_kept x y hx hy =
-      ap (λ s. d s (j s (spot_of after x) (spot_of after y))) (spot_kept 0 t.some)
-      ∙ ap (λ s. d (spot_of rows 0) (j (spot_of rows 0) s (spot_of after y))) (spot_kept x hx)
-      ∙ ap (λ s. d (spot_of rows 0) (j (spot_of rows 0) (spot_of rows x) s)) (spot_kept y hy)
-
-  -- a member then: an old one that is neither a nor b, or the new row
-  pub record Old (k : ℕ) : Type 0 where
-    pub stood : Among k group
-    pub first : k ≡ a → ⊥
-    pub second : k ≡ b → ⊥
-
-  pub member_of : (k : ℕ) → Among k left → Old k ⊎ (k ≡ length rows)
-  member_of k i =
-      ⊎_elim
-      (λ (m : Among k (filter (others a b) group)).
-      let r = among_kept (others a b) group k m in
-      let n = others_not a b k r.1 in
-      inl (record { stood = r.0; first = n.0; second = n.1 }))
-      (λ (m : Among k (length rows ∷ [])). inr (among_one m))
-      (among_either (filter (others a b) group) (length rows ∷ []) i)
-
-  old_member : (k : ℕ) → Among k group → (k ≡ a → ⊥) → (k ≡ b → ⊥) → Among k left
-  old_member k i na nb = among_left (filter (others a b) group) (length rows ∷ []) (kept_among (others a b) group k i (others_yes a b k na nb))
-
-  new_member : Among (length rows) left
-  new_member = among_right (filter (others a b) group) (length rows ∷ []) here
-
-  pub step_hung : (g : ℕ) → Among g left → Child after 0 g
-  step_hung g i =
-      let P : ℕ → Type 0 = λ n. Child after 0 n in
-      ⊎_elim
-      (λ (o : Old g).
-      let c = hung g o.stood in
-      record {
-        row = omega (arith, c.row, step_length);
-        moves = c.moves;
-        parent = ap (λ (r : Row). r.parent) (row_same g c.row o.first o.second) ∙ c.parent;
-      })
-      (λ (e : g ≡ length rows).
-      subst P (sym e) (record { row = omega (arith, step_length); moves = λ z. omega (arith, t.some); parent = ap (λ (r : Row). r.parent) row_new }))
-      (member_of g i)
+  abbrev Stayed : ℕ → Type 0
+  Stayed = Old d j rows t group hung a b q
 
   -- the new row's number is above all others
   pub step_rising : Rising group → Rising left
@@ -123,7 +42,7 @@ module _ (d : Spot → Spot → ℕ) (j : Spot → Spot → Spot → Spot) (rows
       omega (
         arith,
         length_push (filter (others a b) group) (length rows),
-        kept_two_less (others a b) group a b q.first q.second (λ e. apart (sym e)) (others_first a b a refl) (others_second a b b refl),
+        kept_two_less (others a b) group a b q.first q.second (λ e. omega (arith, q.ordered, e)) (others_first a b a refl) (others_second a b b refl),
       )
 
   -- ---- the pairs then
@@ -134,16 +53,16 @@ module _ (d : Spot → Spot → ℕ) (j : Spot → Spot → Spot → Spot) (rows
       let ha : m.a < length rows = omega (arith, p.lower) in
       let hb : m.b < length rows = omega (arith, p.second) in
       ⊎_elim
-      (λ (o : Old m.a). record { member = o.stood; lower = p.lower; second = p.second; long = p.long ∙ far_kept m.a m.b ha hb })
+      (λ (o : Stayed m.a). record { member = o.stood; lower = p.lower; second = p.second; long = p.long ∙ far_kept d j rows t group hung a b q m.a m.b ha hb })
       (λ (e : m.a ≡ length rows). absurd (omega (arith, e, ha)))
-      (member_of m.a p.member)
+      (member_of d j rows t group hung a b q m.a p.member)
 
   partner_on : (x : ℕ) → Among x group → (m : Pair) → Partner d j rows group x m → (m.a ≡ a → ⊥) → (m.a ≡ b → ⊥) → Partner d j after left x m
   partner_on x i m p na nb =
       let hx = (hung x i).row in
       let ha : m.a < length rows = omega (arith, p.lower) in
       let hb : m.b < length rows = omega (arith, p.second) in
-      record { member = old_member m.a p.member na nb; lower = p.lower; second = p.second; long = p.long ∙ sym (far_kept m.a m.b ha hb) }
+      record { member = old_member d j rows t group hung a b q m.a p.member na nb; lower = p.lower; second = p.second; long = p.long ∙ sym (far_kept d j rows t group hung a b q m.a m.b ha hb) }
 
   module _ (F : List Pair) (f : Firsts d j rows group F) where
     pub step_ready : length F < 768 → Ready d j after left a b (length rows) F
@@ -152,23 +71,23 @@ module _ (d : Spot → Spot → ℕ) (j : Spot → Spot → Spot → Spot) (rows
           stale = λ old i.
               let h = f.each old i in
               record {
-                member = λ na nb. old_member old.b h.member na nb;
+                member = λ na nb. old_member d j rows t group hung a b q old.b h.member na nb;
                 near = λ na nb n r. then_lead old.far n.far _ (h.best.1 n (partner_back old.b h.member n r));
                 stays = λ na nb ma mb. (partner_on old.b h.member old h.best.0 ma mb, λ n r. h.best.1 n (partner_back old.b h.member n r));
               };
-          member = new_member;
+          member = new_member d j rows t group hung a b q;
           all = λ x i m p.
               ⊎_elim
-              (λ (o : Old x). let r = f.all x o.stood m (partner_back x o.stood m p) in inr (r.0, r.1, r.2, o.first, o.second))
+              (λ (o : Stayed x). let r = f.all x o.stood m (partner_back x o.stood m p) in inr (r.0, r.1, r.2, o.first, o.second))
               (λ (e : x ≡ length rows). inl e)
-              (member_of x i);
+              (member_of d j rows t group hung a b q x i);
           few = few;
         }
 
 -- ---- what a step needs and keeps
 
 module _ (d : Spot → Spot → ℕ) (j : Spot → Spot → Spot → Spot) (rows : List Row) (t : Tree rows) (group : List ℕ) (F : List Pair) (s : Standing d j rows group F) (a b : ℕ) (q : PairOf d j group a b) where
-  pub step_parts : Parts rows 0 a b
+  pub step_parts : Insertable rows 0 a b
   step_parts =
       record {
         first = s.hung a q.first;

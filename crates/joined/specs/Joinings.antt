@@ -1,6 +1,6 @@
 -- Joining a group of rows on the driver, step by step, and what the call answers. `d` is the distance of two spots, and `j o a b` the meet of a
 -- and b seen from o. Assumes nothing.
-use Rattle.std.specs.Prelude.{◌≡◌, ℕ, ◌+◌, ◌<◌, ◌≤◌, Bool, true, false, not, ◌&&◌, List, length, Some, None, Option, ◌==◌, slice_index}
+use Rattle.std.specs.Prelude.{◌≡◌, ℕ, ◌+◌, ◌<◌, ◌≤◌, Bool, true, false, List, length, Some, None, Option, slice_index}
 use Rattle.order.specs.Firsts.{Among}
 use Rattle.space.specs.declared.Space.{Ghosts}
 use Rattle.space.specs.declared.Joining.{Ghosts as JoinGhosts}
@@ -8,11 +8,10 @@ use Rattle.space.specs.declared.spot.Spot.{Spot}
 use Rattle.tree_laws.specs.declared.Row.{Row}
 use Rattle.tree_laws.specs.Trees.{Child, Hung, wire_of}
 use Rattle.tree.specs.declared.table.Table.{Table}
-use Rattle.tree.specs.Hooks.{Measured, reach_of}
-use Rattle.tree.specs.Tables.{rows_of}
-use Rattle.share.specs.Shares.{join_of}
+use Rattle.tree.specs.declared.table.TheConstants.{ROWS}
+use Rattle.tree_laws.specs.Distances.{Measured, join_of, reach_of}
 use Rattle.build_laws.specs.Joining.{Joins, Kept, PairOf, far_of}
-use Rattle.joined.specs.declared.pair.Pair.{Pair}
+use Rattle.build_laws.specs.declared.pair.Pair.{Pair}
 use Rattle.joined.specs.Pairs.{Firsts}
 
 -- ---- what can be joined
@@ -29,12 +28,7 @@ AllHang rows group = (g : ℕ) → Among g group → Child rows 0 g
 pub record Joinable (rows : List Row) (group : List ℕ) : Type 0 where
   pub rising : Rising group
   pub hung : AllHang rows group
-  pub room : length rows + length group ≤ 768
-
--- Asked whether the members can be joined, the answer is r.
-abbrev pub Asked : List Row → List ℕ → Bool → Type 0
-Asked rows group true = Joinable rows group
-Asked rows group false = Joinable rows group → ⊥
+  pub room : length rows + length group ≤ ROWS
 
 -- ---- the answer
 
@@ -54,21 +48,17 @@ pub record Whole {X : Type 0} (G : Ghosts X) (J : JoinGhosts X) (s : X) (rows : 
 
 -- Asked to join the group on the table t₀, the answer is r, and the table is t then.
 abbrev pub JoinedBy : {X : Type 0} → Ghosts X → JoinGhosts X → X → (t₀ : Table) → List ℕ → Option ℕ → (t : Table) → Type 0
-JoinedBy G J s t₀ group None t = (Joinable (rows_of t₀) group → ⊥) × (t ≡ t₀)
-JoinedBy G J s t₀ group (Some w) t = Whole G J s (rows_of t₀) group w (rows_of t)
+JoinedBy G J s t₀ group None t = (Joinable t₀.rows group → ⊥) × (t ≡ t₀)
+JoinedBy G J s t₀ group (Some w) t = Whole G J s t₀.rows group w t.rows
 
 -- ---- the steps
-
--- Neither a nor b.
-abbrev pub others : (a b : ℕ) → ℕ → Bool
-others a b x = not (x == a) && not (x == b)
 
 module _ (d : Spot → Spot → ℕ) (j : Spot → Spot → Spot → Spot) where
   -- The group can be joined, and F holds the first pair of each member.
   pub record Standing (rows : List Row) (group : List ℕ) (F : List Pair) : Type 0 where
     pub hung : (g : ℕ) → Among g group → Child rows 0 g
     pub rising : Rising group
-    pub room : length rows + length group ≤ 768
+    pub room : length rows + length group ≤ ROWS
     pub few : length F < length rows
     pub firsts : Firsts d j rows group F
 

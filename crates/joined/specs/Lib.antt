@@ -1,3 +1,4 @@
 pub mod Joinings
+pub mod Joiners
 pub mod Pairs
-pub mod Orders
+pub mod Groups

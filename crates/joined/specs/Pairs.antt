@@ -1,17 +1,14 @@
 -- Pairs of members of a group of rows on the driver, and the first pair of each member. `d` is the distance of two spots, and `j o a b` the meet
 -- of a and b seen from o. Assumes nothing.
-use Rattle.std.specs.Prelude.{◌≡◌, ℕ, ◌<◌, ◌≤◌, Bool, ◌⊎◌, List, length, Some, None, Option, ◌≢◌, nat_lt, slice_index}
+use Rattle.std.specs.Prelude.{◌≡◌, ℕ, ◌<◌, ◌≤◌, ◌⊎◌, List, length, Some, None, Option, ◌≢◌, slice_index}
 use Rattle.order.specs.Firsts.{Among}
-use Rattle.order.specs.Orders.{then_by}
 use Rattle.space.specs.declared.spot.Spot.{Spot}
 use Rattle.tree_laws.specs.declared.Row.{Row}
 use Rattle.order.specs.Bests.{BestOf}
+use Rattle.tree.specs.declared.table.TheConstants.{ROWS}
 use Rattle.build_laws.specs.Joining.{PairOf, far_of}
-use Rattle.joined.specs.declared.pair.Pair.{Pair}
-
--- The farther first, then the lower a, then the lower b.
-abbrev pub pair_before : (x y : Pair) → Bool
-pair_before x y = then_by y.far x.far (then_by x.a y.a (nat_lt x.b y.b))
+use Rattle.build_laws.specs.declared.pair.Pair.{Pair}
+use Rattle.build_laws.specs.Pairs.{pair_before}
 
 module _ (d : Spot → Spot → ℕ) (j : Spot → Spot → Spot → Spot) where
   -- The pair of two rows.
@@ -64,9 +61,9 @@ module _ (d : Spot → Spot → ℕ) (j : Spot → Spot → Spot → Spot) where
     pub near : (old.b ≢ a) → (old.b ≢ b) → NoFarther rows group old.b old.far
 
   -- The first pair of the member of an old pair, unless it has gone.
-  abbrev pub Again : List Row → List ℕ → (a b : ℕ) → Pair → Option Pair → Type 0
-  Again rows group a b old None = (old.b ≢ a) → (old.b ≢ b) → (p : Pair) → Partner rows group old.b p → ⊥
-  Again rows group a b old (Some w) = Held rows group w × (w.b ≡ old.b)
+  abbrev pub Renewed : List Row → List ℕ → (a b : ℕ) → Pair → Option Pair → Type 0
+  Renewed rows group a b old None = (old.b ≢ a) → (old.b ≢ b) → (p : Pair) → Partner rows group old.b p → ⊥
+  Renewed rows group a b old (Some w) = Held rows group w × (w.b ≡ old.b)
 
   -- A number that has an old pair and has not gone.
   abbrev pub Lasting : (a b : ℕ) → List Pair → ℕ → Type 0
@@ -77,4 +74,4 @@ module _ (d : Spot → Spot → ℕ) (j : Spot → Spot → Spot → Spot) where
     pub stale : (old : Pair) → Among old F → Stale rows group a b old
     pub member : Among new group
     pub all : (x : ℕ) → Among x group → (p : Pair) → Partner rows group x p → (x ≡ new) ⊎ Lasting a b F x
-    pub few : length F < 768
+    pub few : length F < ROWS

@@ -1,13 +1,12 @@
-ghost use Rattle.std.specs.Prelude.{◌≡◌, ◌≤◌, length, vec_capacity, filter, Decides};
-ghost use Rattle.tree.specs.Hooks.{reach_of};
-ghost use Rattle.tree.specs.Tables.{rows_of};
-ghost use Rattle.share.specs.Shares.{join_of};
-ghost use Rattle.joined.specs.Joinings.{AllHang, Asked, Joinable, JoinedBy, Rising, Standing, Stepped, others};
+ghost use Rattle.std.specs.Prelude.{◌≡◌, ◌≤◌, ◌↔◌, IsTrue, length, vec_capacity, filter};
+ghost use Rattle.tree.specs.declared.table.TheConstants.{ROWS};
+ghost use Rattle.build_laws.specs.Joining.{others};
+ghost use Rattle.joined.specs.Joinings.{AllHang, Joinable, Rising};
 
-use crate::pair::Pair;
 use crate::partners::{Change, Group};
+use build_laws::Pair;
 use search::first;
-use share::{hangs, part};
+use share::{hangs, insert_meet};
 use space::Joining;
 use std::alloc::{AllocError, Global};
 use tree::{ROWS, Table};
@@ -17,27 +16,27 @@ use tree::{ROWS, Table};
 pub struct Joiner {
     group: Vec<usize>,
     partners: Vec<Pair>,
-    ghost members: { 768 ≤ vec_capacity group },
-    ghost kept: { 768 ≤ vec_capacity partners },
+    ghost members: { ROWS ≤ vec_capacity group },
+    ghost kept: { ROWS ≤ vec_capacity partners },
 }
 
 /// Whether the members rise.
 fn rises(members: &[usize]) -> bool
-    ensures { Decides result (Rising members.now) }
+    ensures { IsTrue result ↔ Rising members.now }
 {
     members.is_sorted_by(|a, b| a < b)
 }
 
 /// Whether each member is a row that hangs on the driver.
 fn all_hang(table: &Table, members: &[usize]) -> bool
-    ensures { Decides result (AllHang (rows_of table.now) members.now) }
+    ensures { IsTrue result ↔ AllHang table.now.rows members.now }
 {
     members.iter().all(|&member| hangs(table, 0, member))
 }
 
 /// Whether the members are rows that hang on the driver, in rising order, with room for a new row for each.
 fn joinable(table: &Table, members: &[usize]) -> bool
-    ensures { Asked (rows_of table.now) members.now result }
+    ensures { IsTrue result ↔ Joinable table.now.rows members.now }
 {
     members.len() <= ROWS - table.len() && rises(members) && all_hang(table, members)
 }
@@ -52,21 +51,27 @@ fn leave(group: &mut Vec<usize>, a: usize, b: usize)
 
 /// Makes the members the group.
 fn fill(group: &mut Vec<usize>, members: &[usize])
-    requires few { length members.now ≤ 768 }
-    requires room { 768 ≤ vec_capacity group.old }
+    requires few { length members.now ≤ ROWS }
+    requires room { ROWS ≤ vec_capacity group.old }
     ensures items { group.new.items ≡ members.now }
     ensures room { vec_capacity group.new ≡ vec_capacity group.old }
 {
     group.clear();
-    // Kept: `extend_from_slice` may allocate (fixed memory is a rule of this engine).
+    // `extend_from_slice` would ask for an allocator: all memory is reserved.
     for &member in members {
         group.push_reserved(member);
     }
 }
 
 impl Joiner {
-    /// Room for as many members as a table can have rows.
-    pub fn new(heap: Global) -> Result<Joiner, AllocError> {
+    ghost use Rattle.std.specs.Prelude.{[], IfOk};
+    ghost use Rattle.joined.specs.Joiners.{Stands, Steps, members_of};
+    ghost use Rattle.joined.specs.Joinings.{JoinedBy};
+
+    /// Room for as many members as a table can have rows, and none yet.
+    pub fn new(heap: Global) -> Result<Joiner, AllocError>
+        ensures { IfOk result (λ joiner. members_of joiner ≡ []) }
+    {
         let group = Vec::with_capacity(heap, ROWS)?;
         let partners = Vec::with_capacity(heap, ROWS)?;
         Ok(Joiner { group, partners })
@@ -74,9 +79,9 @@ impl Joiner {
 
     /// Makes the members the group and finds the first pair of each.
     fn begin<S: Joining>(&mut self, space: &S, table: &Table, members: &[usize])
-        requires { Joinable (rows_of table.now) members.now }
-        ensures standing { Standing (reach_of S.Space space.now) (join_of S.Space S.Joining.own space.now) (rows_of table.now) self.new.group.items self.new.partners.items }
-        ensures members { self.new.group.items ≡ members.now }
+        requires { Joinable table.now.rows members.now }
+        ensures standing { Stands S.Space S.Joining.own space.now table.now.rows self.new }
+        ensures members { members_of self.new ≡ members.now }
     {
         fill(&mut self.group, members);
         let group = Group {
@@ -88,10 +93,10 @@ impl Joiner {
     }
 
     /// Joins the first pair of all, and answers whether there is one whose meet is not 0 from the driver.
-    // Kept: a plain yes or no, which the loop in `join` asks; an `Option<()>` would say no more, and its `?` would save two lines.
     fn step<S: Joining>(&mut self, space: &S, table: &mut Table) -> bool
-        requires { Standing (reach_of S.Space space.now) (join_of S.Space S.Joining.own space.now) (rows_of table.old) self.old.group.items self.old.partners.items }
-        ensures { Stepped (reach_of S.Space space.now) (join_of S.Space S.Joining.own space.now) (rows_of table.old) self.old.group.items result (rows_of table.new) self.new.group.items self.new.partners.items }
+        requires { Stands S.Space S.Joining.own space.now table.old.rows self.old }
+        ensures { Steps S.Space S.Joining.own space.now table.old.rows self.old result
+            table.new.rows self.new }
     {
         let Some(pair) = first(self.partners.as_slice()) else {
             return false;
@@ -99,7 +104,7 @@ impl Joiner {
         if pair.far == 0 {
             return false;
         }
-        let Some(new) = part(space, table, 0, pair.a, pair.b) else {
+        let Some(new) = insert_meet(space, table, 0, pair.a, pair.b) else {
             return false;
         };
         let Pair { a, b, .. } = pair;

@@ -3,8 +3,7 @@
 #![tactic(auto)]
 
 mod joining;
-mod pair;
 mod partners;
 
+pub use build_laws::Pair;
 pub use joining::Joiner;
-pub use pair::Pair;

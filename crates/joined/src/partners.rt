@@ -1,13 +1,10 @@
-// The first partner of each member of the group.
-ghost use Rattle.std.specs.Prelude.{◌≡◌, ◌+◌, ◌<◌, ◌≤◌, cond, length, vec_capacity};
+ghost use Rattle.std.specs.Prelude.{◌≡◌, ◌+◌, ◌<◌, ◌≤◌, Some, None, if◌then◌else◌, length, vec_capacity};
 ghost use Rattle.order.specs.Bests.{BestOf};
-ghost use Rattle.tree.specs.Hooks.{reach_of};
-ghost use Rattle.tree.specs.Tables.{rows_of};
-ghost use Rattle.share.specs.Shares.{join_of};
+ghost use Rattle.tree.specs.declared.table.TheConstants.{ROWS};
+ghost use Rattle.build_laws.specs.Pairs.{pair_before};
 ghost use Rattle.joined.specs.Joinings.{Rising};
-ghost use Rattle.joined.specs.Pairs.{Again, Firsts, NoFarther, Partner, PartnerAt, Ready, Stale, pair_before, pair_of};
 
-use crate::pair::Pair;
+use build_laws::Pair;
 use search::first_until;
 use share::join;
 use space::{Joining, LONGEST};
@@ -19,7 +16,7 @@ pub(crate) struct Group<'a, S: Joining> {
     pub space: &'a S,
     pub table: &'a Table,
     pub members: &'a [usize],
-    ghost few: { length members.now ≤ 768 },
+    ghost few: { length members.now ≤ ROWS },
     ghost rising: { Rising members.now },
 }
 
@@ -32,9 +29,11 @@ pub(crate) struct Change {
 }
 
 impl<'a, S: Joining> Group<'a, S> {
+    ghost use Rattle.joined.specs.Groups.{FirstsIn, NoneFarther, PartnerAtIn, PartnerIn, ReadyIn, RenewedIn, StaleIn, pair_in};
+
     /// The pair of two rows.
     fn pair(&self, a: usize, b: usize) -> Pair
-        ensures { result ≡ pair_of (reach_of S.Space self.now.space.now) (join_of S.Space S.Joining.own self.now.space.now) (rows_of self.now.table.now) a b }
+        ensures { result ≡ pair_in S.Space S.Joining.own self.now a b }
     {
         let driver = self.table.at(0).spot;
         let one = self.table.at(a).spot;
@@ -47,7 +46,7 @@ impl<'a, S: Joining> Group<'a, S> {
     /// The pair of `b` with the member at the place `i`, where that is lower.
     fn partner(&self, i: usize, b: usize) -> Option<Pair>
         requires { i < length self.now.members.now }
-        ensures { BestOf pair_before (PartnerAt (reach_of S.Space self.now.space.now) (join_of S.Space S.Joining.own self.now.space.now) (rows_of self.now.table.now) self.now.members.now b i) result }
+        ensures { BestOf pair_before (PartnerAtIn S.Space S.Joining.own self.now b i) result }
     {
         let a = self.members[i];
         if a >= b {
@@ -59,7 +58,8 @@ impl<'a, S: Joining> Group<'a, S> {
     /// The first of the pairs of `b` with a lower member, none of which is farther than `most`. The members rise, so the search ends at a pair
     /// that is as far as that.
     fn first_of(&self, b: usize, most: u64) -> Option<Pair>
-        ensures { NoFarther (reach_of S.Space self.now.space.now) (join_of S.Space S.Joining.own self.now.space.now) (rows_of self.now.table.now) self.now.members.now b most → BestOf pair_before (Partner (reach_of S.Space self.now.space.now) (join_of S.Space S.Joining.own self.now.space.now) (rows_of self.now.table.now) self.now.members.now b) result }
+        ensures { NoneFarther S.Space S.Joining.own self.now b most
+            → BestOf pair_before (PartnerIn S.Space S.Joining.own self.now b) result }
     {
         first_until(
             self.members.len(),
@@ -70,8 +70,8 @@ impl<'a, S: Joining> Group<'a, S> {
 
     /// The first pair of each member that has a lower one.
     pub fn start(&self, partners: &mut Vec<Pair>)
-        requires { 768 ≤ vec_capacity partners.old }
-        ensures firsts { Firsts (reach_of S.Space self.now.space.now) (join_of S.Space S.Joining.own self.now.space.now) (rows_of self.now.table.now) self.now.members.now partners.new.items }
+        requires { ROWS ≤ vec_capacity partners.old }
+        ensures firsts { FirstsIn S.Space S.Joining.own self.now partners.new.items }
         ensures few { length partners.new.items ≤ length self.now.members.now }
         ensures room { vec_capacity partners.new ≡ vec_capacity partners.old }
     {
@@ -83,42 +83,36 @@ impl<'a, S: Joining> Group<'a, S> {
         }
     }
 
-    /// The first pair of a member after a step: nothing where the member has gone, else as it was unless its partner has gone. Then it is
-    /// searched anew, and is no farther than it was, since fewer lower members are left.
-    fn again(&self, old: Pair, change: Change) -> Option<Pair>
-        ensures { Stale (reach_of S.Space self.now.space.now) (join_of S.Space S.Joining.own self.now.space.now) (rows_of self.now.table.now) self.now.members.now change.a change.b old → Again (reach_of S.Space self.now.space.now) (join_of S.Space S.Joining.own self.now.space.now) (rows_of self.now.table.now) self.now.members.now change.a change.b old result }
+    /// Makes the first pair of a member what it is after a step, and answers whether there is one: none where the member has gone, else the
+    /// pair as it was unless its partner has gone. Then it is searched anew, and is no farther than it was, since fewer lower members are left.
+    fn renewed(&self, pair: &mut Pair, change: Change) -> bool
+        ensures { StaleIn S.Space S.Joining.own self.now change pair.old
+            → RenewedIn S.Space S.Joining.own self.now change pair.old
+            (if result then Some pair.new else None) }
     {
         let Change { a, b, .. } = change;
-        if old.b == a || old.b == b {
-            return None;
+        if pair.b == a || pair.b == b {
+            return false;
         }
-        if old.a == a || old.a == b {
-            return self.first_of(old.b, old.far);
+        if pair.a != a && pair.a != b {
+            return true;
         }
-        Some(old)
-    }
-
-    /// Makes the first pair of a member what it is after a step, and answers whether there is one.
-    // Kept: a plain yes or no, which `retain_mut` asks for.
-    fn refresh(&self, pair: &mut Pair, change: Change) -> bool
-        ensures { Stale (reach_of S.Space self.now.space.now) (join_of S.Space S.Joining.own self.now.space.now) (rows_of self.now.table.now) self.now.members.now change.a change.b pair.old → Again (reach_of S.Space self.now.space.now) (join_of S.Space S.Joining.own self.now.space.now) (rows_of self.now.table.now) self.now.members.now change.a change.b pair.old (cond result (Some pair.new) None) }
-    {
-        let Some(kept) = self.again(*pair, change) else {
+        let Some(found) = self.first_of(pair.b, pair.far) else {
             return false;
         };
-        *pair = kept;
+        *pair = found;
         true
     }
 
     /// Makes the first pairs of the members before a step those after it.
     pub fn renew(&self, change: Change, partners: &mut Vec<Pair>)
-        requires room { 768 ≤ vec_capacity partners.old }
-        requires ready { Ready (reach_of S.Space self.now.space.now) (join_of S.Space S.Joining.own self.now.space.now) (rows_of self.now.table.now) self.now.members.now change.a change.b change.new partners.old.items }
-        ensures firsts { Firsts (reach_of S.Space self.now.space.now) (join_of S.Space S.Joining.own self.now.space.now) (rows_of self.now.table.now) self.now.members.now partners.new.items }
+        requires room { ROWS ≤ vec_capacity partners.old }
+        requires ready { ReadyIn S.Space S.Joining.own self.now change partners.old.items }
+        ensures firsts { FirstsIn S.Space S.Joining.own self.now partners.new.items }
         ensures few { length partners.new.items ≤ length partners.old.items + 1 }
         ensures room { vec_capacity partners.new ≡ vec_capacity partners.old }
     {
-        partners.retain_mut(|pair| self.refresh(pair, change));
+        partners.retain_mut(|pair| self.renewed(pair, change));
         if let Some(found) = self.first_of(change.new, LONGEST) {
             partners.push_reserved(found);
         }

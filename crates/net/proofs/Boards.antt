@@ -16,8 +16,7 @@ use Rattle.span.specs.Grown.{Grown, Spanned}
 use Rattle.span.specs.Lengths.{length_of, lengths, spot_of}
 use Rattle.span.specs.Spanning.{Spanning}
 use Rattle.span.proofs.Steps.{spanning_agrees}
-use Rattle.tree.specs.Hooks.{reach_of}
-use Rattle.tree.specs.Tables.{rows_of}
+use Rattle.tree_laws.specs.Distances.{reach_of}
 use Rattle.tree.specs.declared.table.Table.{Table}
 use Rattle.net.specs.declared.board.Board.{Board}
 use Rattle.net.specs.declared.board.holding.Tree.TheVariants.{Standing}
@@ -35,7 +34,7 @@ same_board a b s p l e t = λ i.
       few = is_prop→PathP (λ j. p j ≤ 256) (λ j. le_prop) a.few b.few i;
       points = is_prop→PathP (λ j. length (vec_items (s j)) ≤ p j + 256) (λ j. le_prop) a.points b.points i;
       nodes = is_prop→PathP (λ j. nodes_of (e j) ≡ length (vec_items (s j))) (λ j. ℕ_set _ _) a.nodes b.nodes i;
-      tall = is_prop→PathP (λ j. (x : Table) → t j ≡ Standing x → length (vec_items (s j)) ≤ length (rows_of x)) (λ j. hlevel props) a.tall b.tall i;
+      tall = is_prop→PathP (λ j. (x : Table) → t j ≡ Standing x → length (vec_items (s j)) ≤ length x.rows) (λ j. hlevel props) a.tall b.tall i;
       two = is_prop→PathP (λ j. (x : Table) → t j ≡ Standing x → 2 ≤ p j) (λ j. hlevel props) a.two b.two i;
     }
 

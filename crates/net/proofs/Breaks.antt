@@ -15,15 +15,13 @@ use Rattle.net_laws.specs.States.{State, with_tree}
 use Rattle.net_laws.specs.Worlds.{cut, joining}
 use Rattle.order.specs.Firsts.{Among}
 use Rattle.seed.specs.Seeds.{edges_of, nodes_of}
-use Rattle.share.specs.Shares.{join_of}
+use Rattle.tree_laws.specs.Distances.{join_of, reach_of}
 use Rattle.space.specs.declared.Joining.{Ghosts as JoinGhosts}
 use Rattle.space.specs.declared.Space.{Ghosts}
 use Rattle.space.specs.declared.spot.Spot.{Spot}
 use Rattle.span.specs.Lengths.{spot_of as spot_at}
 use Rattle.straight.specs.Built.{StraightBy, Straightened, breakpoints_of}
 use Rattle.straight.proofs.Mixed.{among_breakpoints}
-use Rattle.tree.specs.Hooks.{reach_of}
-use Rattle.tree.specs.Tables.{rows_of}
 use Rattle.tree.specs.declared.table.Table.{Table as Tree-table}
 use Rattle.tree_laws.specs.Trees.{add, hang, spot_of, up, wire_of}
 use Rattle.tree_laws.specs.declared.Row.{Row}
@@ -123,7 +121,7 @@ joins_more d m {rows} (join a b far some j) =
     omega (arith, e, joins_more d m j)
 
 -- a group that can be joined is joined
-pub joined_some : {X : Type 0} (G : Ghosts X) (J : JoinGhosts X) (s : X) (t₀ : Tree-table) (group : List ℕ) (r : Option ℕ) (t : Tree-table) → JoinedBy G J s t₀ group r t → Joinable (rows_of t₀) group → Whole G J s (rows_of t₀) group (unwrap_or r 0) (rows_of t)
+pub joined_some : {X : Type 0} (G : Ghosts X) (J : JoinGhosts X) (s : X) (t₀ : Tree-table) (group : List ℕ) (r : Option ℕ) (t : Tree-table) → JoinedBy G J s t₀ group r t → Joinable t₀.rows group → Whole G J s t₀.rows group (unwrap_or r 0) t.rows
 joined_some G J s t₀ group None t h j = absurd (h.0 j)
 joined_some G J s t₀ group (Some w) t h j = h
 
@@ -142,7 +140,7 @@ joined_tree d m b p q found w rows after s j =
     }
 
 -- a build of a board that is ready, joined after it, answers as a net asks
-pub joined_told : {X : Type 0} (G : Ghosts X) (J : JoinGhosts X) (s : X) (b straight after : Board) (a : Allowance) (found : List ℕ) (w v : ℕ) → ReadyAnswer (seen b) (Ok a) → Straightened (reach_of G s) (vec_items b.spots) a.p a.q b.pins (nodes_of b.seed) (edges_of b.seed) found w (rows_of (table_of straight.tree)) → seen straight ≡ with_tree (seen b) (rows_of (table_of straight.tree)) → Joins (reach_of G s) (join_of G J s) (rows_of (table_of straight.tree)) found (rows_of (table_of after.tree)) → v ≡ wire_of (rows_of (table_of after.tree)) → seen after ≡ with_tree (seen straight) (rows_of (table_of after.tree)) → JoinedAnswer (cut (joining G J s)) (seen b) (seen after) (Ok v)
+pub joined_told : {X : Type 0} (G : Ghosts X) (J : JoinGhosts X) (s : X) (b straight after : Board) (a : Allowance) (found : List ℕ) (w v : ℕ) → ReadyAnswer (seen b) (Ok a) → Straightened (reach_of G s) (vec_items b.spots) a.p a.q b.pins (nodes_of b.seed) (edges_of b.seed) found w (table_of straight.tree).rows → seen straight ≡ with_tree (seen b) (table_of straight.tree).rows → Joins (reach_of G s) (join_of G J s) (table_of straight.tree).rows found (table_of after.tree).rows → v ≡ wire_of (table_of after.tree).rows → seen after ≡ with_tree (seen straight) (table_of after.tree).rows → JoinedAnswer (cut (joining G J s)) (seen b) (seen after) (Ok v)
 joined_told G J s b straight after a found w v r t e j k h =
-    let rows = rows_of (table_of after.tree) in
-    (r.0, (r.1.0, (r.1.1.0, (a.p, a.q, rows, r.1.1.1, joined_tree (reach_of G s) (join_of G J s) b a.p a.q found w (rows_of (table_of straight.tree)) rows t j, k, h ∙ ap (λ (n : State). with_tree n rows) e))))
+    let rows = (table_of after.tree).rows in
+    (r.0, (r.1.0, (r.1.1.0, (a.p, a.q, rows, r.1.1.1, joined_tree (reach_of G s) (join_of G J s) b a.p a.q found w (table_of straight.tree).rows rows t j, k, h ∙ ap (λ (n : State). with_tree n rows) e))))

@@ -5,15 +5,16 @@ use Rattle.net_laws.specs.States.{State}
 use Rattle.net_laws.specs.Worlds.{cut, joining}
 use Rattle.net_laws.specs.declared.fault.Fault.{Fault}
 use Rattle.seed.specs.Seeds.{edges_of}
-use Rattle.share.specs.Shares.{Saved, Shared, join_of, meet_of, shared_by}
-use Rattle.share.specs.declared.share.Share.{Share}
-use Rattle.share.specs.declared.sharing.Unshared.{Unshared}
-use Rattle.share.specs.declared.sharing.Unshared.TheVariants.{Nothing, Full}
+use Rattle.share.specs.Shares.{Saved, Shared}
+use Rattle.tree_laws.specs.Distances.{join_of, reach_of}
+use Rattle.tree_laws.specs.Shares.{meet_of, shared_by}
+use Rattle.tree_laws.specs.declared.share.Share.{Share}
+use Rattle.share.specs.declared.sharing.ShareFault.{ShareFault}
+use Rattle.share.specs.declared.sharing.ShareFault.TheVariants.{Nothing, Full}
 use Rattle.space.specs.declared.Joining.{Ghosts as JoinGhosts}
 use Rattle.space.specs.declared.Space.{Ghosts}
 use Rattle.space.specs.declared.spot.Spot.{Spot}
-use Rattle.tree.specs.Hooks.{Hooked, reach_of}
-use Rattle.tree.specs.Tables.{rows_of}
+use Rattle.tree.specs.Hooks.{Hooked}
 use Rattle.tree.specs.declared.table.Table.{Table}
 use Rattle.tree_laws.specs.Trees.{add, hang, spot_of}
 use Rattle.tree_laws.specs.declared.Row.{Row}
@@ -29,7 +30,7 @@ not_none o rows p q = let z : ◌≡◌ {A = ℕ} 0 1 = cc in omega arith
 only : (o : Option (List Row)) (rows other : List Row) → o ≡ Some rows → o ≡ Some other → rows ≡ other
 only o rows other p q = cc
 
-pub stands : (b : Board) (t : Table) → b.tree ≡ Standing t → Stands (seen b) (rows_of t)
+pub stands : (b : Board) (t : Table) → b.tree ≡ Standing t → Stands (seen b) t.rows
 stands b t e = ap standing e
 
 pub hooked_same : {X : Type 0} (G : Ghosts X) (s : X) (t₀ : Table) (o : Option ℕ) (t : Table) → Hooked G s t₀ o t → (r : Result ℕ Fault) → is_ok r ≡ is_some o → is_err r ≡ true → t ≡ t₀
@@ -46,25 +47,25 @@ shared_length rows d j m =
 
 -- the board with the table t in the place of its own
 abbrev with_table : Board → Table → State
-with_table b t = record { spots = vec_items b.spots; pins = b.pins; allowance = ratio_of b.allowance; edges = edges_of b.seed; tree = Some (rows_of t) }
+with_table b t = record { spots = vec_items b.spots; pins = b.pins; allowance = ratio_of b.allowance; edges = edges_of b.seed; tree = Some t.rows }
 
-pub share_saves : {X : Type 0} (G : Ghosts X) (J : JoinGhosts X) (s : X) (b : Board) (t₀ t : Table) (w : ℕ) → b.tree ≡ Standing t₀ → Saved G J s (rows_of t₀) w (rows_of t) → ShareAnswer (cut (joining G J s)) (seen b) (with_table b t) (Ok w)
+pub share_saves : {X : Type 0} (G : Ghosts X) (J : JoinGhosts X) (s : X) (b : Board) (t₀ t : Table) (w : ℕ) → b.tree ≡ Standing t₀ → Saved G J s t₀.rows w t.rows → ShareAnswer (cut (joining G J s)) (seen b) (with_table b t) (Ok w)
 share_saves G J s b t₀ t w up h =
-    let rows = rows_of t₀ in
+    let rows = t₀.rows in
     let st = stands b t₀ up in
-    let more : length (rows_of t) ≡ length rows + 1 = ap length h.shared ∙ shared_length rows (reach_of G s) (join_of G J s) h.move in (
+    let more : length t.rows ≡ length rows + 1 = ap length h.shared ∙ shared_length rows (reach_of G s) (join_of G J s) h.move in (
       λ none. not_none (seen b).tree rows st none,
       (
         (rows, st, (h.move, h.best.0)),
         (
           λ other at. let same : rows ≡ other = only (seen b).tree rows other st at in omega (arith, ap length same, more, t.few),
-          (rows, rows_of t, st, record { move = h.move; best = h.best; saves = sym h.saving; shared = h.shared }, refl),
+          (rows, t.rows, st, record { move = h.move; best = h.best; saves = sym h.saving; shared = h.shared }, refl),
         ),
       ),
     )
 
 -- a share move that is refused leaves the table as it was
-pub refused_same : {X : Type 0} (G : Ghosts X) (J : JoinGhosts X) (s : X) (t₀ : Table) (r : Result ℕ Unshared) (t : Table) → Shared G J s t₀ r t → is_err r ≡ true → t ≡ t₀
+pub refused_same : {X : Type 0} (G : Ghosts X) (J : JoinGhosts X) (s : X) (t₀ : Table) (r : Result ℕ ShareFault) (t : Table) → Shared G J s t₀ r t → is_err r ≡ true → t ≡ t₀
 refused_same G J s t₀ (Err Nothing) t h e = h.2
 refused_same G J s t₀ (Err Full) t h e = h.1
 refused_same G J s t₀ (Ok w) t h e = let z : ◌≡◌ {A = ℕ} 0 1 = cc in absurd (omega arith)

@@ -4,7 +4,6 @@ use Rattle.net_laws.specs.Answers.{accepts, asks}
 use Rattle.net_laws.specs.States.{State}
 use Rattle.net_laws.specs.declared.fault.Fault.{Fault}
 use Rattle.seed.specs.Seeds.{edges_of}
-use Rattle.tree.specs.Tables.{rows_of}
 use Rattle.tree.specs.declared.table.Table.{Table}
 use Rattle.tree_laws.specs.declared.Row.{Row}
 use Rattle.walk.specs.declared.allowance.Allowance.{Allowance}
@@ -24,7 +23,7 @@ table_of (Idle t) = t
 
 -- The rows of the tree, if it stands.
 abbrev pub standing : Tree → Option (List Row)
-standing (Standing t) = Some (rows_of t)
+standing (Standing t) = Some t.rows
 standing (Idle t) = None
 
 -- What the board holds.

@@ -1,6 +1,5 @@
 ghost use Rattle.std.specs.Prelude.{◌≡◌, ◌+◌, ◌≤◌, length, vec_capacity};
 ghost use Rattle.seed.specs.Seeds.{nodes_of};
-ghost use Rattle.tree.specs.Tables.{rows_of};
 ghost use Rattle.tree.specs.declared.table.Table.{Table};
 ghost use Rattle.net.specs.declared.board.holding.Tree.TheVariants.{Standing};
 
@@ -40,6 +39,6 @@ pub struct Board {
     ghost few: { pins ≤ 256 },
     ghost points: { length spots.items ≤ pins + 256 },
     ghost nodes: { nodes_of seed ≡ length spots.items },
-    ghost tall: { (t : Table) → tree ≡ Standing t → length spots.items ≤ length (rows_of t) },
+    ghost tall: { (t : Table) → tree ≡ Standing t → length spots.items ≤ length t.rows },
     ghost two: { (t : Table) → tree ≡ Standing t → 2 ≤ pins },
 }

@@ -4,7 +4,6 @@ ghost use Rattle.net_laws.specs.Readings.{WorstOf, figure_of};
 ghost use Rattle.net_laws.specs.Worsts.{worst_before};
 ghost use Rattle.order.specs.Bests.{BestOf};
 ghost use Rattle.span.specs.Lengths.{length_of};
-ghost use Rattle.tree.specs.Tables.{rows_of};
 ghost use Rattle.net.specs.Nets.{seen};
 ghost use Rattle.net.specs.Sinks.{SinkAt};
 
@@ -18,7 +17,7 @@ impl Built<'_> {
     /// 1000 times the path of the pin `k` by its direct distance, the fraction dropped.
     fn figure<S: Space>(&self, space: &S, k: usize) -> u64
         requires { k < self.now.board.now.pins }
-        ensures { result ≡ figure_of (length_of S.Space space.now) (seen self.now.board.now) (rows_of self.now.table.now) k }
+        ensures { result ≡ figure_of (length_of S.Space space.now) (seen self.now.board.now) self.now.table.now.rows k }
     {
         let board = self.board();
         let direct = length_between(space, board.spot(0), board.spot(k));
@@ -28,7 +27,7 @@ impl Built<'_> {
     /// The pin `k` with its figure, where it is a sink.
     fn sink<S: Space>(&self, space: &S, k: usize) -> Option<Worst>
         requires { k < self.now.board.now.pins }
-        ensures { BestOf worst_before (SinkAt (length_of S.Space space.now) (seen self.now.board.now) (rows_of self.now.table.now) k) result }
+        ensures { BestOf worst_before (SinkAt (length_of S.Space space.now) (seen self.now.board.now) self.now.table.now.rows k) result }
     {
         if k == 0 {
             return None;
@@ -39,7 +38,7 @@ impl Built<'_> {
 
     /// The sink with the greatest figure; of equal ones the lowest.
     pub(crate) fn worst<S: Space>(&self, space: &S) -> Worst
-        ensures { WorstOf (length_of S.Space space.now) (seen self.now.board.now) (rows_of self.now.table.now) result }
+        ensures { WorstOf (length_of S.Space space.now) (seen self.now.board.now) self.now.table.now.rows result }
     {
         // There are 2 pins or more, so there is a sink.
         first_found(self.board().pins(), |k| self.sink(space, k)).unwrap()

@@ -3,16 +3,15 @@ use Rattle.std.proofs.Common.{◌≡◌, ℕ, Bool, List, length, Some, Ok, Err,
 use Rattle.build_laws.specs.Joining.{Farthest, Joins, far_of, meet_group, meet_row}
 use Rattle.build_laws.specs.Joining.Joins.{done, join}
 use Rattle.forest.specs.Rooted.{Forest}
-use Rattle.joined.specs.declared.pair.Pair.{Pair}
-use Rattle.joined.specs.Orders.{pair_order}
+use Rattle.build_laws.specs.declared.pair.Pair.{Pair}
+use Rattle.build_laws.specs.Pairs.{pair_order}
 use Rattle.order.specs.Orders.{Order}
-use Rattle.share.specs.Shares.{shared_by}
-use Rattle.share.specs.Moves.{share_order}
+use Rattle.tree_laws.specs.Shares.{share_order, shared_by}
 use Rattle.space.specs.declared.spot.Spot.{Spot}
 use Rattle.span.proofs.Steps.{spanning_only}
 use Rattle.span.specs.Lengths.{spot_of as spot_at}
 use Rattle.order.specs.Bests.{BestOf}
-use Rattle.tree.specs.Moves.{hook_order}
+use Rattle.tree_laws.specs.Hooks.{hook_order}
 use Rattle.tree_laws.specs.Trees.{hang, spot_of}
 use Rattle.tree_laws.specs.declared.Row.{Row}
 use Rattle.walk_laws.specs.Walk.{start, walk}

@@ -3,15 +3,16 @@ use Rattle.std.proofs.Common.{◌≡◌, ℕ, ◌+◌, ◌<◌, ◌≤◌, List,
 use Rattle.build_laws.specs.Joining.{Grouped, Joins, far_of}
 use Rattle.build_laws.specs.Joining.Joins.{done, join}
 use Rattle.build_laws.proofs.Joined.{first_child, second_child, step_grouped}
-use Rattle.share.specs.Shares.{ShareMove, shared_by}
-use Rattle.share.specs.declared.share.Share.{Share}
-use Rattle.share.proofs.Measures.{measured_again, paths_stay, spot_kept, wire_falls}
+use Rattle.tree_laws.specs.Shares.{ShareMove, shared_by}
+use Rattle.tree_laws.specs.declared.share.Share.{Share}
+use Rattle.tree_laws.proofs.ShareMoves.{measured_again, paths_stay, spot_kept, wire_falls}
 use Rattle.space.specs.Laws.{Meets, Metric, limit}
 use Rattle.space.specs.declared.Joining.{Ghosts as JoinGhosts}
 use Rattle.space.specs.declared.Space.{Ghosts}
-use Rattle.tree.specs.Hooks.{HookMove, Measured}
-use Rattle.tree.specs.declared.hook.Hook.{Hook}
-use Rattle.tree.proofs.Measured.{hang_measured}
+use Rattle.tree_laws.specs.Hooks.{HookMove}
+use Rattle.tree_laws.specs.Distances.{Measured}
+use Rattle.tree_laws.specs.declared.hook.Hook.{Hook}
+use Rattle.tree_laws.proofs.HookMoves.{hang_measured}
 use Rattle.tree_laws.specs.Trees.{Tree, hang, path_length, spot_of, wire_of}
 use Rattle.tree_laws.specs.declared.Row.{Row}
 use Rattle.tree_laws.proofs.Hanging.{hang_length, hang_never_grows, hang_spot, hang_tree, hang_wire}

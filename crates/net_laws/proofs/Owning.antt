@@ -3,16 +3,16 @@ use Rattle.std.proofs.Common.{◌≡◌, ℕ, suc, ◌<◌, ◌≤◌, max, true
 use Rattle.std.proofs.lemmas.Bool.{and_from}
 use Rattle.build_laws.specs.Joining.{Grouped, Joins}
 use Rattle.build_laws.specs.Straight.{straight}
-use Rattle.joined.proofs.Owning.{own_joins}
-use Rattle.share.specs.Shares.{ShareMove}
-use Rattle.share.proofs.Measures as sharing
-use Rattle.share.specs.declared.share.Share.{Share}
+use Rattle.build_laws.proofs.Owning.{own_joins}
+use Rattle.tree_laws.specs.Shares.{ShareMove}
+use Rattle.tree_laws.proofs.ShareMoves as sharing
+use Rattle.tree_laws.specs.declared.share.Share.{Share}
 use Rattle.space.specs.Laws.{limit}
 use Rattle.space.specs.declared.spot.Spot.{Spot}
 use Rattle.span.specs.Lengths.{origin, spot_of as spot_at}
 use Rattle.span.proofs.Steps.{spanning_agrees}
-use Rattle.tree.specs.Hooks.{Measured}
-use Rattle.tree.proofs.Measured.{measured, move_cut, move_own, settled, uncut}
+use Rattle.tree_laws.specs.Distances.{Measured}
+use Rattle.tree_laws.proofs.HookMoves.{measured, move_cut, move_own, settled, uncut}
 use Rattle.tree_laws.specs.Trees.{hang}
 use Rattle.tree_laws.specs.declared.Row.{Row}
 use Rattle.walk_laws.specs.Walk.{start, walk}

@@ -6,15 +6,15 @@ use Rattle.build_laws.specs.Straight.{straight}
 use Rattle.forest.specs.Edges.{Joined, wire}
 use Rattle.forest.specs.Growth.{Planted}
 use Rattle.forest.specs.declared.Edge.{Edge}
-use Rattle.share.specs.Shares.{ShareMove, share_before, shared_by}
-use Rattle.share.specs.declared.share.Share.{Share}
+use Rattle.tree_laws.specs.Shares.{ShareMove, share_before, shared_by}
+use Rattle.tree_laws.specs.declared.share.Share.{Share}
 use Rattle.space.specs.Laws.{limit}
 use Rattle.space.specs.declared.spot.Spot.{Spot}
 use Rattle.span.specs.Lengths.{spot_of as spot_at}
 use Rattle.span.specs.Spanning.{Spanning}
 use Rattle.order.specs.Bests.{BestOf}
-use Rattle.tree.specs.Hooks.{HookMove, hook_before}
-use Rattle.tree.specs.declared.hook.Hook.{Hook}
+use Rattle.tree_laws.specs.Hooks.{HookMove, hook_before}
+use Rattle.tree_laws.specs.declared.hook.Hook.{Hook}
 use Rattle.tree_laws.specs.Trees.{hang, spot_of, wire_of}
 use Rattle.tree_laws.specs.declared.Row.{Row}
 use Rattle.walk_laws.specs.Walk.{Rules, Table, start, walk}

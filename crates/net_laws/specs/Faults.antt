@@ -1,7 +1,5 @@
 -- The layer and the number of each refusal. Assumes nothing.
 use Rattle.std.specs.Prelude.{ℕ}
-use Rattle.share.specs.declared.sharing.Unshared.{Unshared}
-use Rattle.share.specs.declared.sharing.Unshared.TheVariants as share
 use Rattle.net_laws.specs.declared.fault.Fault.{Fault}
 use Rattle.net_laws.specs.declared.fault.Fault.TheVariants as fault
 use Rattle.net_laws.specs.declared.fault.Layer.{Layer}
@@ -29,11 +27,6 @@ number_of fault.NoTree = 13
 number_of fault.NoMove = 14
 number_of fault.TooManyRows = 15
 number_of fault.OutOfRange = 16
-
--- The refusal of a share move as one of the net.
-abbrev pub unshared : Unshared → Fault
-unshared share.Nothing = fault.NoMove
-unshared share.Full = fault.TooManyRows
 
 abbrev pub layer_of : Fault → Layer
 layer_of (fault.Space e) = layer.Space

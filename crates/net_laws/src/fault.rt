@@ -1,8 +1,7 @@
 ghost use Rattle.std.specs.Prelude.{◌≡◌};
-ghost use Rattle.net_laws.specs.Faults.{layer_of, number_of, unshared};
+ghost use Rattle.net_laws.specs.Faults.{layer_of, number_of};
 ghost use Rattle.net_laws.specs.declared.fault.Fault.TheVariants.{Space as carried};
 
-use share::Unshared;
 use std::fmt;
 
 /// A refusal of the space.
@@ -61,17 +60,6 @@ impl From<SpaceFault> for Fault {
 
     fn from(fault: SpaceFault) -> Fault {
         Fault::Space(fault)
-    }
-}
-
-impl From<Unshared> for Fault {
-    ghost from_gives = { λ e r. r ≡ unshared e };
-
-    fn from(refusal: Unshared) -> Fault {
-        match refusal {
-            Unshared::Nothing => Fault::NoMove,
-            Unshared::Full => Fault::TooManyRows,
-        }
     }
 }
 

@@ -1,2 +1,2 @@
-pub mod Measures
+pub mod Gaining
 pub mod Placing

@@ -1,2 +1,3 @@
+pub mod Meets
 pub mod Shares
-pub mod Moves
+pub mod Searches

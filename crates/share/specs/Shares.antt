@@ -1,49 +1,17 @@
--- The share move: what it is, what it saves, and which is the best. `d` is how far apart two spots are, and `j o a b` is where the ways from o
--- to a and to b part. Assumes nothing.
-use Rattle.std.specs.Prelude.{◌≡◌, ℕ, ◌+◌, ◌<◌, Bool, true, false, ◌&&◌, List, length, Some, None, Ok, Err, Option, Result, nat_lt}
-use Rattle.std.specs.Option.{unwrap_or}
-use Rattle.order.specs.Orders.{then_by}
-use Rattle.space.specs.Laws.{answered}
+-- What a call for the best share move answers, and what it does to the table. Assumes nothing.
+use Rattle.std.specs.Prelude.{◌≡◌, ℕ, ◌+◌, ◌<◌, List, length, Some, None, Ok, Err, Result}
+use Rattle.order.specs.Bests.{BestOf}
 use Rattle.space.specs.declared.Space.{Ghosts}
 use Rattle.space.specs.declared.Joining.{Ghosts as JoinGhosts}
-use Rattle.space.specs.declared.spot.Spot.{Spot}
 use Rattle.tree_laws.specs.declared.Row.{Row}
-use Rattle.tree_laws.specs.Trees.{Child, Hung, between, path_length, spot_of, wire_of}
+use Rattle.tree_laws.specs.declared.share.Share.{Share}
+use Rattle.tree_laws.specs.Distances.{Measured, join_of, reach_of}
+use Rattle.tree_laws.specs.Shares.{ShareMove, share_before, shared_by}
+use Rattle.tree_laws.specs.Trees.{Hung, path_length, wire_of}
 use Rattle.tree.specs.declared.table.Table.{Table}
-use Rattle.order.specs.Bests.{BestOf}
-use Rattle.tree.specs.Hooks.{Measured, reach_of}
-use Rattle.tree.specs.Tables.{rows_of}
-use Rattle.share.specs.declared.share.Share.{Share}
-use Rattle.share.specs.declared.sharing.Unshared.{Unshared}
-use Rattle.share.specs.declared.sharing.Unshared.TheVariants.{Nothing, Full}
-
--- The greater saving first, then the lower v, then the lower a, then the lower b.
-abbrev pub share_before : (x y : Share) → Bool
-share_before x y = then_by y.saving x.saving (then_by x.v y.v (then_by x.a y.a (nat_lt x.b y.b)))
-
--- The meet of the two children, seen from v.
-abbrev pub meet_of : List Row → (Spot → Spot → Spot → Spot) → Share → Spot
-meet_of rows j m = j (spot_of rows m.v) (spot_of rows m.a) (spot_of rows m.b)
-
--- A move puts the meet of two children a < b of v between v and both. It saves the distance of v and the meet, 1 or more.
-pub record ShareMove (rows : List Row) (d : Spot → Spot → ℕ) (j : Spot → Spot → Spot → Spot) (m : Share) : Type 0 where
-  pub row : m.v < length rows
-  pub first : Child rows m.v m.a
-  pub second : Child rows m.v m.b
-  pub order : m.a < m.b
-  pub saves : m.saving ≡ d (spot_of rows m.v) (meet_of rows j m)
-  pub counts : 0 < m.saving
-
--- The rows after a move: the meet between v and both children.
-abbrev pub shared_by : List Row → (Spot → Spot → ℕ) → (Spot → Spot → Spot → Spot) → Share → List Row
-shared_by rows d j m =
-    between rows m.v (meet_of rows j m) (d (spot_of rows m.v) (meet_of rows j m)) m.a (d (meet_of rows j m) (spot_of rows m.a)) m.b (d (meet_of rows j m) (spot_of rows m.b))
-
--- ---- the space
-
--- The meet of a and b seen from o; o where there is none.
-abbrev pub join_of : {X : Type 0} → Ghosts X → JoinGhosts X → X → Spot → Spot → Spot → Spot
-join_of G J s o a b = unwrap_or (answered (G.admitted s o && G.admitted s a && G.admitted s b) (J.meeting s o a b)) o
+use Rattle.tree.specs.declared.table.TheConstants.{ROWS}
+use Rattle.share.specs.declared.sharing.ShareFault.{ShareFault}
+use Rattle.share.specs.declared.sharing.ShareFault.TheVariants.{Nothing, Full}
 
 -- ---- the answer
 
@@ -70,47 +38,13 @@ pub record NoRoom {X : Type 0} (G : Ghosts X) (J : JoinGhosts X) (s : X) (rows :
   pub move : Share
   pub best : BestOf share_before (ShareMove rows (reach_of G s) (join_of G J s)) (Some move)
   pub own : Measured G s rows → BestOf share_before (ShareMove rows (G.between s) (J.meeting s)) (Some move)
-  pub full : length rows ≡ 768
+  pub full : length rows ≡ ROWS
 
 -- Asked to make the best share move on the table t₀, the answer is r, and the table is t then.
-abbrev pub Shared : {X : Type 0} → Ghosts X → JoinGhosts X → X → (t₀ : Table) → Result ℕ Unshared → (t : Table) → Type 0
+abbrev pub Shared : {X : Type 0} → Ghosts X → JoinGhosts X → X → (t₀ : Table) → Result ℕ ShareFault → (t : Table) → Type 0
 Shared G J s t₀ (Err Nothing) t =
-    BestOf share_before (ShareMove (rows_of t₀) (reach_of G s) (join_of G J s)) None
-    × (Measured G s (rows_of t₀) → BestOf share_before (ShareMove (rows_of t₀) (G.between s) (J.meeting s)) None)
+    BestOf share_before (ShareMove t₀.rows (reach_of G s) (join_of G J s)) None
+    × (Measured G s t₀.rows → BestOf share_before (ShareMove t₀.rows (G.between s) (J.meeting s)) None)
     × (t ≡ t₀)
-Shared G J s t₀ (Err Full) t = NoRoom G J s (rows_of t₀) × (t ≡ t₀)
-Shared G J s t₀ (Ok w) t = Saved G J s (rows_of t₀) w (rows_of t)
-
--- ---- parting
-
--- Whether the row c hangs on v.
-abbrev pub Hanging : List Row → (v c : ℕ) → Bool → Type 0
-Hanging rows v c true = Child rows v c
-Hanging rows v c false = Child rows v c → ⊥
-
--- a and b are two different children of v, and there is room for another row.
-pub record Parts (rows : List Row) (v a b : ℕ) : Type 0 where
-  pub first : Child rows v a
-  pub second : Child rows v b
-  pub other : a ≡ b → ⊥
-  pub room : length rows < 768
-
--- The meet of the rows a and b, seen from v.
-abbrev pub part_of : List Row → (Spot → Spot → Spot → Spot) → (v a b : ℕ) → Spot
-part_of rows j v a b = j (spot_of rows v) (spot_of rows a) (spot_of rows b)
-
--- The rows with the meet of a and b between v and both.
-abbrev pub parted_by : List Row → (Spot → Spot → ℕ) → (Spot → Spot → Spot → Spot) → (v a b : ℕ) → List Row
-parted_by rows d j v a b =
-    between rows v (part_of rows j v a b) (d (spot_of rows v) (part_of rows j v a b)) a (d (part_of rows j v a b) (spot_of rows a)) b (d (part_of rows j v a b) (spot_of rows b))
-
--- Asked to put the meet of a and b between v and both, the answer is r, and the table t₀ is t then.
-abbrev pub Parted : (Spot → Spot → ℕ) → (Spot → Spot → Spot → Spot) → (t₀ : Table) → (v a b : ℕ) → Option ℕ → (t : Table) → Type 0
-Parted d j t₀ v a b None t = (Parts (rows_of t₀) v a b → ⊥) × (t ≡ t₀)
-Parted d j t₀ v a b (Some k) t = Parts (rows_of t₀) v a b × (k ≡ length (rows_of t₀)) × (rows_of t ≡ parted_by (rows_of t₀) d j v a b)
-
--- ---- the search
-
--- A move of a and b.
-abbrev pub ShareAt : List Row → (Spot → Spot → ℕ) → (Spot → Spot → Spot → Spot) → (a b : ℕ) → Share → Type 0
-ShareAt rows d j a b m = ShareMove rows d j m × (m.a ≡ a) × (m.b ≡ b)
+Shared G J s t₀ (Err Full) t = NoRoom G J s t₀.rows × (t ≡ t₀)
+Shared G J s t₀ (Ok w) t = Saved G J s t₀.rows w t.rows

@@ -2,10 +2,9 @@
 
 #![tactic(auto)]
 
-mod parting;
-mod share;
+mod meeting;
 mod sharing;
 
-pub use parting::{hangs, join, part};
-pub use share::Share;
-pub use sharing::{Unshared, share_best};
+pub use meeting::{hangs, insert_meet, join};
+pub use sharing::{ShareFault, share_best};
+pub use tree_laws::Share;

@@ -1,35 +1,37 @@
-ghost use Rattle.std.specs.Prelude.{◌≡◌};
 ghost use Rattle.order.specs.Bests.{BestOf};
-ghost use Rattle.tree.specs.Hooks.{reach_of};
-ghost use Rattle.tree.specs.Tables.{rows_of};
-ghost use Rattle.share.specs.Shares.{ShareAt, ShareMove, Shared, join_of, share_before};
+ghost use Rattle.tree_laws.specs.Shares.{share_before};
+ghost use Rattle.share.specs.Searches.{MoveAt, MoveIn};
+ghost use Rattle.share.specs.Shares.{Shared};
 
-use crate::parting::{join, part};
-use crate::share::Share;
+use crate::meeting::{insert_meet, join};
 use search::first_of_pairs;
 use space::Joining;
+use thiserror::Error;
 use tree::{Table, reach};
+use tree_laws::Share;
 
 /// Why no share move was made.
-#[derive(Clone, Copy, Debug, PartialEq, Eq)]
-pub enum Unshared {
+#[derive(Clone, Copy, Debug, PartialEq, Eq, Error)]
+pub enum ShareFault {
     /// No move saves 1 or more.
+    #[error("no share move saves wire")]
     Nothing,
     /// There is a move, and no room for another row.
+    #[error("there is no room for another row")]
     Full,
 }
 
 /// The search for the best move of a table, in the space that measures its rows.
 #[derive(Drop)]
-struct Search<'a, S: Joining> {
+struct ShareSearch<'a, S: Joining> {
     space: &'a S,
     table: &'a Table,
 }
 
-impl<'a, S: Joining> Search<'a, S> {
+impl<'a, S: Joining> ShareSearch<'a, S> {
     /// The move of the rows `a` and `b`, where it is one.
     fn weigh(&self, a: usize, b: usize) -> Option<Share>
-        ensures { BestOf share_before (ShareAt (rows_of self.now.table.now) (reach_of S.Space self.now.space.now) (join_of S.Space S.Joining.own self.now.space.now) a b) result }
+        ensures { BestOf share_before (MoveAt S.Space S.Joining.own self.now a b) result }
     {
         if a == 0 {
             return None;
@@ -54,7 +56,7 @@ impl<'a, S: Joining> Search<'a, S> {
 
     /// The first of all moves.
     fn best(&self) -> Option<Share>
-        ensures { BestOf share_before (ShareMove (rows_of self.now.table.now) (reach_of S.Space self.now.space.now) (join_of S.Space S.Joining.own self.now.space.now)) result }
+        ensures { BestOf share_before (MoveIn S.Space S.Joining.own self.now) result }
     {
         let rows = self.table.len();
         first_of_pairs(rows, rows, |a, b| self.weigh(a, b))
@@ -63,14 +65,14 @@ impl<'a, S: Joining> Search<'a, S> {
 
 /// Makes the best share move and answers what it saves; the table stays as it was where no move saves 1 or more, and where there is no
 /// room for another row.
-pub fn share_best<S: Joining>(space: &S, table: &mut Table) -> Result<u64, Unshared>
+pub fn share_best<S: Joining>(space: &S, table: &mut Table) -> Result<u64, ShareFault>
     ensures { Shared S.Space S.Joining.own space.now table.old result table.new }
 {
-    let search = Search {
+    let search = ShareSearch {
         space,
         table: &*table,
     };
-    let share = search.best().ok_or(Unshared::Nothing)?;
-    part(space, table, share.v, share.a, share.b).ok_or(Unshared::Full)?;
+    let share = search.best().ok_or(ShareFault::Nothing)?;
+    insert_meet(space, table, share.v, share.a, share.b).ok_or(ShareFault::Full)?;
     Ok(share.saving)
 }

@@ -13,7 +13,7 @@ use Rattle.tree_laws.proofs.Adding.{add_length, add_new, add_old}
 use Rattle.tree_laws.proofs.Hanging.{hang_length}
 use Rattle.tree_laws.proofs.Ways.{off_under, placed, way_only}
 use Rattle.tree.specs.declared.table.Table.{Table as Tree-table}
-use Rattle.tree.specs.Tables.{Added, rows_of}
+use Rattle.tree.specs.Tables.{Added}
 use Rattle.build_laws.specs.Straight.{straight, straight_row}
 use Rattle.build_laws.proofs.Building.{straight_length, straight_row_lem}
 use Rattle.straight.specs.Built.{breakpoints_of}
@@ -43,7 +43,7 @@ module _ (R : Rules) (S : Table) (place : ℕ → Spot) (v : ℕ) (nz : v ≡ 0 
 -- ---- all rows on the driver
 
 -- a row that there is room for is added
-pub added_rows : (s : Tree-table) (u : ℕ) (z : Spot) (l : ℕ) (r : Option ℕ) (t : Tree-table) → Added s u z l r t → u < length (rows_of s) → l ≤ 100000000 → length (rows_of s) < 768 → rows_of t ≡ add (rows_of s) u z l
+pub added_rows : (s : Tree-table) (u : ℕ) (z : Spot) (l : ℕ) (r : Option ℕ) (t : Tree-table) → Added s u z l r t → u < length s.rows → l ≤ 100000000 → length s.rows < 768 → t.rows ≡ add s.rows u z l
 added_rows s u z l None t a h k m = absurd (a.0 (record { parent = h; short = k; room = m }))
 added_rows s u z l (Some i) t a h k m = a.2
 

@@ -13,8 +13,8 @@ use Rattle.walk_laws.specs.Walk.{Rules}
 use Rattle.walk_laws.specs.Promise.{Branch, Triangle}
 use Rattle.tree_laws.specs.declared.Row.{Row}
 use Rattle.tree_laws.specs.Trees.{length_of, row_of, spot_of, up}
-use Rattle.tree.specs.Hooks.{Measured, reach_of}
-use Rattle.tree.proofs.Measured.{uncut}
+use Rattle.tree_laws.specs.Distances.{Measured, reach_of}
+use Rattle.tree_laws.proofs.HookMoves.{uncut}
 use Rattle.build_laws.specs.Straight.{straight_row}
 use Rattle.build_laws.proofs.Building.{straight_length, straight_row_lem}
 use Rattle.straight.specs.Built.{Laid, Measures, StraightBy, Straightened, origin, rules_of, spot_at}

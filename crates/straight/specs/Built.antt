@@ -14,8 +14,7 @@ use Rattle.walk.specs.Walked.{Walked}
 use Rattle.tree_laws.specs.declared.Row.{Row}
 use Rattle.tree_laws.specs.Trees.{path_length, wire_of}
 use Rattle.tree.specs.declared.table.Table.{Table}
-use Rattle.tree.specs.Hooks.{Measured, reach_of}
-use Rattle.tree.specs.Tables.{rows_of}
+use Rattle.tree_laws.specs.Distances.{Measured, reach_of}
 use Rattle.build_laws.specs.Straight.{Straight, straight}
 
 -- The spot of a node; past the spots, the origin.
@@ -68,5 +67,5 @@ abbrev pub Answer : {X : Type 0} → Ghosts X → X → (t₀ : Table) → (befo
 Answer G s t₀ before spots p q pins seed found None t = (Matches seed spots → ⊥) × (t ≡ t₀) × (found ≡ before)
 Answer G s t₀ before spots p q pins seed found (Some w) t =
     Matches seed spots
-    × Straightened (reach_of G s) spots p q pins (nodes_of seed) (edges_of seed) found w (rows_of t)
-    × (Laid G s spots (edges_of seed) → Measures G s spots p q pins (nodes_of seed) (edges_of seed) found w (rows_of t))
+    × Straightened (reach_of G s) spots p q pins (nodes_of seed) (edges_of seed) found w t.rows
+    × (Laid G s spots (edges_of seed) → Measures G s spots p q pins (nodes_of seed) (edges_of seed) found w t.rows)

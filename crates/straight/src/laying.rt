@@ -1,7 +1,6 @@
 // The direct distances of the nodes, and the rows of the straight tree.
 ghost use Rattle.std.specs.Prelude.{◌≡◌, ◌≤◌, map, length, vec_capacity, slice_index_or};
-ghost use Rattle.tree.specs.Hooks.{reach_of};
-ghost use Rattle.tree.specs.Tables.{rows_of};
+ghost use Rattle.tree_laws.specs.Distances.{reach_of};
 ghost use Rattle.walk.specs.Marks.{directs, idle, marks, rules_of};
 ghost use Rattle.walk.specs.Tables.{rows_of as walkRows};
 ghost use Rattle.straight.specs.Built.{breakpoints_of, spot_at};
@@ -50,7 +49,7 @@ impl<'a> Plan<'a> {
     /// Hangs every node on the driver, at its direct distance.
     fn star(&self, tree: &mut tree::Table)
         requires { 1 ≤ length self.now.spots.now }
-        ensures { Laying (rules_of 0 0 0 (walkRows self.now.walk.now)) (marks (walkRows self.now.walk.now)) (spot_at self.now.spots.now) (length self.now.spots.now) 1 (rows_of tree.new) }
+        ensures { Laying (rules_of 0 0 0 (walkRows self.now.walk.now)) (marks (walkRows self.now.walk.now)) (spot_at self.now.spots.now) (length self.now.spots.now) 1 tree.new.rows }
     {
         tree.restart(spot_of(self.spots, 0));
         // Kept: `v` is the number of a node, of its distance and of its row; `self.spots.iter().enumerate().skip(1)` gives the same number in a longer way.
@@ -63,7 +62,7 @@ impl<'a> Plan<'a> {
     pub(crate) fn lay(&self, tree: &mut tree::Table, broken: &mut Vec<usize>)
         requires room { 512 ≤ vec_capacity broken.old }
         requires falling { Falling (length self.now.spots.now) (marks (walkRows self.now.walk.now)) }
-        ensures rows { Laying (rules_of 0 0 0 (walkRows self.now.walk.now)) (marks (walkRows self.now.walk.now)) (spot_at self.now.spots.now) (length self.now.spots.now) (length self.now.spots.now) (rows_of tree.new) }
+        ensures rows { Laying (rules_of 0 0 0 (walkRows self.now.walk.now)) (marks (walkRows self.now.walk.now)) (spot_at self.now.spots.now) (length self.now.spots.now) (length self.now.spots.now) tree.new.rows }
         ensures found { broken.new.items ≡ breakpoints_of (marks (walkRows self.now.walk.now)) (length self.now.spots.now) }
         ensures room { vec_capacity broken.new ≡ vec_capacity broken.old }
     {

@@ -4,15 +4,16 @@ use Rattle.tree_laws.specs.declared.Row.{Row}
 use Rattle.tree_laws.specs.Trees.{Tree, Hangs, hang, path_length, wire_of}
 use Rattle.tree_laws.proofs.Ways.{hung}
 use Rattle.tree_laws.proofs.Hanging.{hang_never_grows, hang_tree, hang_wire}
-use Rattle.tree.specs.declared.hook.Hook.{Hook}
-use Rattle.tree.specs.declared.table.Refusal.{Refusal}
+use Rattle.tree_laws.specs.declared.hook.Hook.{Hook}
+use Rattle.tree.specs.declared.table.HangFault.{HangFault}
 use Rattle.tree.specs.declared.table.Table.{Table}
 use Rattle.order.specs.Bests.{BestOf}
-use Rattle.tree.specs.Hooks.{hook_before, HookMove, Saved}
-use Rattle.tree.specs.Tables.{Changed, rows_of}
+use Rattle.tree_laws.specs.Hooks.{HookMove, hook_before}
+use Rattle.tree.specs.Hooks.{Saved}
+use Rattle.tree.specs.Tables.{Changed}
 
 -- what can be hung is hung
-pub changed_hangs : (s : Table) (v u l : ℕ) (r : Result (Unit {0}) Refusal) (t : Table) → Changed s v u l r t → Hangs (rows_of s) v u → l ≤ 100000000 → rows_of t ≡ hang (rows_of s) v u l
+pub changed_hangs : (s : Table) (v u l : ℕ) (r : Result (Unit {0}) HangFault) (t : Table) → Changed s v u l r t → Hangs s.rows v u → l ≤ 100000000 → t.rows ≡ hang s.rows v u l
 changed_hangs s v u l (Ok x) t c g h = c.2
 changed_hangs s v u l (Err e) t c g h = absurd (c.0 g h)
 

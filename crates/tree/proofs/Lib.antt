@@ -1,3 +1,3 @@
 pub mod Hooking
-pub mod Measured
+pub mod Saving
 pub mod Tabled

@@ -8,14 +8,13 @@ use Rattle.std.proofs.lemmas.List.Sums.{sum_by-le}
 use Rattle.tree_laws.specs.declared.Row.{Row}
 use Rattle.tree_laws.specs.Trees.{Tree, blank, row_of, wire_of}
 use Rattle.tree.specs.declared.table.Table.{Table}
-use Rattle.tree.specs.Tables.{rows_of}
 
-pub tree_of : (t : Table) → Tree (rows_of t)
+pub tree_of : (t : Table) → Tree t.rows
 tree_of t = t.tree
 
-pub wire_fits : (t : Table) → wire_of (rows_of t) < 2 ^ 64
+pub wire_fits : (t : Table) → wire_of t.rows < 2 ^ 64
 wire_fits t =
-    let short = sum_by-le (λ (r : Row). r.length) 100000000 (rows_of t) (λ k d h. let e : get_or (rows_of t) k d ≡ row_of (rows_of t) k = get_or_default (rows_of t) k d blank h in rw e (t.lengths k)) in
+    let short = sum_by-le (λ (r : Row). r.length) 100000000 t.rows (λ k d h. let e : get_or t.rows k d ≡ row_of t.rows k = get_or_default t.rows k d blank h in rw e (t.lengths k)) in
     omega (arith, short, t.few)
 
 -- An array that was made by calls at each number, of a closure that calls leave as it is, holds what the closure answers.

@@ -1,4 +1,4 @@
-pub mod Bests
-pub mod Hooks
+pub mod TableValue
 pub mod Tables
-pub mod Moves
+pub mod Hooks
+pub mod Searches

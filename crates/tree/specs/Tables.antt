@@ -1,19 +1,22 @@
 -- What a table holds, and what its changes answer. Assumes nothing.
-use Rattle.std.specs.Prelude.{◌≡◌, ℕ, ◌<◌, ◌≤◌, true, List, [], ◌∷◌, length, Some, None, Ok, Err, vec_items, Option, Result, slice_index, ◌≢◌}
+use Rattle.std.specs.Prelude.{◌≡◌, ℕ, ◌<◌, ◌≤◌, true, List, length, Some, None, Ok, Err, Option, Result, slice_index, nat_lt, ◌≢◌}
+use Rattle.space.specs.Laws.{answered}
+use Rattle.space.specs.declared.TheConstants.{LONGEST}
 use Rattle.space.specs.declared.spot.Spot.{Spot}
 use Rattle.tree_laws.specs.declared.Row.{Row}
-use Rattle.tree_laws.specs.Trees.{Hangs, add, hang, path_length, under}
-use Rattle.tree.specs.declared.table.Refusal.{Refusal}
-use Rattle.tree.specs.declared.table.Refusal.TheVariants.{Driver, NoRow, NoParent, TooLong, Below}
+use Rattle.tree_laws.specs.Trees.{Hangs, add, hang, path_length, row_of, under}
+use Rattle.tree.specs.declared.table.HangFault.{HangFault}
+use Rattle.tree.specs.declared.table.HangFault.TheVariants.{Driver, NoRow, NoParent, TooLong, Below}
 use Rattle.tree.specs.declared.table.Table.{Table}
+use Rattle.tree.specs.declared.table.TheConstants.{ROWS}
 
--- The rows, from the driver on.
-abbrev pub rows_of : Table → List Row
-rows_of t = vec_items t.rows
+-- The row k; nothing past the end.
+abbrev pub row_at : List Row → ℕ → Option Row
+row_at rows k = answered (nat_lt k (length rows)) (row_of rows k)
 
--- The driver alone.
-abbrev pub alone : Spot → List Row
-alone z = record { parent = 0; spot = z; length = 0 } ∷ []
+-- The path of the row k; nothing past the end.
+abbrev pub path_at : List Row → ℕ → Option ℕ
+path_at rows k = answered (nat_lt k (length rows)) (path_length rows k)
 
 -- The first numbers are the paths of the rows.
 pub record Paths (rows : List Row) (ps : List ℕ) : Type 0 where
@@ -22,29 +25,29 @@ pub record Paths (rows : List Row) (ps : List ℕ) : Type 0 where
 
 -- There is room for one more row, and it can hang on u at length l.
 pub record Fits (t : Table) (u l : ℕ) : Type 0 where
-  pub parent : u < length (rows_of t)
-  pub short : l ≤ 100000000
-  pub room : length (rows_of t) < 768
+  pub parent : u < length t.rows
+  pub short : l ≤ LONGEST
+  pub room : length t.rows < ROWS
 
 -- Asked for one more row at z on u, the table s answers r and is t then.
 abbrev pub Added : (s : Table) (u : ℕ) (z : Spot) (l : ℕ) → Option ℕ → (t : Table) → Type 0
 Added s u z l None t = (Fits s u l → ⊥) × (t ≡ s)
-Added s u z l (Some k) t = Fits s u l × (k ≡ length (rows_of s)) × (rows_of t ≡ add (rows_of s) u z l)
+Added s u z l (Some k) t = Fits s u l × (k ≡ length s.rows) × (t.rows ≡ add s.rows u z l)
 
 -- The first reason why v can't hang on u at length l.
-abbrev pub Refused : List Row → (v u l : ℕ) → Refusal → Type 0
+abbrev pub Refused : List Row → (v u l : ℕ) → HangFault → Type 0
 Refused rows v u l Driver = v ≡ 0
 Refused rows v u l NoRow = (v ≢ 0) × (length rows ≤ v)
 Refused rows v u l NoParent = (v ≢ 0) × (v < length rows) × (length rows ≤ u)
-Refused rows v u l TooLong = (v ≢ 0) × (v < length rows) × (u < length rows) × (100000000 < l)
-Refused rows v u l Below = (v ≢ 0) × (v < length rows) × (u < length rows) × (l ≤ 100000000) × (under rows u v ≡ true)
+Refused rows v u l TooLong = (v ≢ 0) × (v < length rows) × (u < length rows) × (LONGEST < l)
+Refused rows v u l Below = (v ≢ 0) × (v < length rows) × (u < length rows) × (l ≤ LONGEST) × (under rows u v ≡ true)
 
 -- Asked whether v can hang on u at length l, the answer is r.
-abbrev pub Hanging : List Row → (v u l : ℕ) → Result (Unit {0}) Refusal → Type 0
-Hanging rows v u l (Ok _) = Hangs rows v u × (l ≤ 100000000)
-Hanging rows v u l (Err e) = (Hangs rows v u → l ≤ 100000000 → ⊥) × Refused rows v u l e
+abbrev pub Hanging : List Row → (v u l : ℕ) → Result (Unit {0}) HangFault → Type 0
+Hanging rows v u l (Ok _) = Hangs rows v u × (l ≤ LONGEST)
+Hanging rows v u l (Err e) = (Hangs rows v u → l ≤ LONGEST → ⊥) × Refused rows v u l e
 
 -- Asked to hang v on u at length l, the table s answers r and is t then.
-abbrev pub Changed : (s : Table) (v u l : ℕ) → Result (Unit {0}) Refusal → (t : Table) → Type 0
-Changed s v u l (Ok _) t = Hangs (rows_of s) v u × (l ≤ 100000000) × (rows_of t ≡ hang (rows_of s) v u l)
-Changed s v u l (Err e) t = (Hangs (rows_of s) v u → l ≤ 100000000 → ⊥) × Refused (rows_of s) v u l e × (t ≡ s)
+abbrev pub Changed : (s : Table) (v u l : ℕ) → Result (Unit {0}) HangFault → (t : Table) → Type 0
+Changed s v u l (Ok _) t = Hangs s.rows v u × (l ≤ LONGEST) × (t.rows ≡ hang s.rows v u l)
+Changed s v u l (Err e) t = (Hangs s.rows v u → l ≤ LONGEST → ⊥) × Refused s.rows v u l e × (t ≡ s)

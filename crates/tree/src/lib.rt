@@ -2,11 +2,10 @@
 
 #![tactic(auto)]
 
-mod hook;
 mod refining;
 mod table;
 
-pub use hook::Hook;
 pub use refining::{hook_best, reach};
 pub use space::LONGEST;
-pub use table::{ROWS, Refusal, Table};
+pub use table::{HangFault, ROWS, Table};
+pub use tree_laws::{Hook, Row};

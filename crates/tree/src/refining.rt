@@ -1,35 +1,39 @@
 ghost use Rattle.std.specs.Prelude.{◌≡◌, ◌≤◌};
-ghost use Rattle.order.specs.Bests.{BestOf};
-ghost use Rattle.tree.specs.Hooks.{HookMove, Hooked, Measured, MoveAt, apart, hook_before, reach_of};
-ghost use Rattle.tree.specs.Tables.{Paths, rows_of};
+ghost use Rattle.space.specs.declared.TheConstants.{LONGEST};
+ghost use Rattle.tree_laws.specs.Distances.{Measured, reach_of};
+ghost use Rattle.tree.specs.Hooks.{Hooked};
+ghost use Rattle.tree.specs.Tables.{Paths};
 
-use crate::hook::Hook;
 use crate::table::{ROWS, Table};
 use search::first_of_pairs;
 use space::{LONGEST, Space, Spot};
+use tree_laws::Hook;
 
 /// The distance of two spots, at most `LONGEST`; 0 where there is none.
 pub fn reach<S: Space>(space: &S, a: Spot, b: Spot) -> u64
     ensures value { result ≡ reach_of S.Space space.now a b }
-    ensures bound { result ≤ 100000000 }
+    ensures bound { result ≤ LONGEST }
 {
     space.distance(a, b).map_or(0, |d| d.min(LONGEST))
 }
 
 /// The search for the best move of a table: the space that measures its rows, and the path of each row.
 #[derive(Drop)]
-struct Search<'a, S: Space> {
+struct HookSearch<'a, S: Space> {
     space: &'a S,
     table: &'a Table,
-    // Kept: room for the paths of as many rows as there can be, since all memory is fixed.
     paths: [u64; ROWS],
-    ghost known: { Paths (rows_of table.now) paths },
+    ghost known: { Paths table.now.rows paths },
 }
 
-impl<'a, S: Space> Search<'a, S> {
+impl<'a, S: Space> HookSearch<'a, S> {
+    ghost use Rattle.order.specs.Bests.{BestOf};
+    ghost use Rattle.tree_laws.specs.Hooks.{hook_before};
+    ghost use Rattle.tree.specs.Searches.{MoveAt, MoveIn};
+
     /// The move that hangs `v` on `u`, where it is one.
     fn weigh(&self, v: usize, u: usize) -> Option<Hook>
-        ensures { BestOf hook_before (MoveAt (rows_of self.now.table.now) (apart S.Space self.now.space.now (rows_of self.now.table.now)) v u) result }
+        ensures { BestOf hook_before (MoveAt S.Space self.now v u) result }
     {
         let old = self.table.row(v)?;
         let parent = self.table.row(u)?;
@@ -52,7 +56,7 @@ impl<'a, S: Space> Search<'a, S> {
 
     /// The first of all moves.
     fn best(&self) -> Option<Hook>
-        ensures { BestOf hook_before (HookMove (rows_of self.now.table.now) (apart S.Space self.now.space.now (rows_of self.now.table.now))) result }
+        ensures { BestOf hook_before (MoveIn S.Space self.now) result }
     {
         let rows = self.table.len();
         first_of_pairs(rows, rows, |v, u| self.weigh(v, u))
@@ -62,9 +66,10 @@ impl<'a, S: Space> Search<'a, S> {
 /// Makes the best hook move of the table and answers what it saves; nothing, with the table as it was, where no move saves 1 or more.
 pub fn hook_best<S: Space>(space: &S, table: &mut Table) -> Option<u64>
     ensures answer { Hooked S.Space space.now table.old result table.new }
-    ensures again { Measured S.Space space.now (rows_of table.old) → Measured S.Space space.now (rows_of table.new) }
+    ensures measured { Measured S.Space space.now table.old.rows
+        → Measured S.Space space.now table.new.rows }
 {
-    let search = Search {
+    let search = HookSearch {
         space,
         table: &*table,
         paths: table.paths(),

@@ -1,26 +1,36 @@
-ghost use Rattle.std.specs.Prelude.{ℕ, ◌≤◌, length, vec_capacity};
+ghost use Rattle.std.specs.Prelude.{◌≡◌, ℕ, ◌≤◌, [], ◌∷◌, length, vec_capacity};
+ghost use Rattle.space.specs.declared.TheConstants.{LONGEST};
+ghost use Rattle.tree.specs.declared.table.TheConstants.{ROWS};
+ghost use Rattle.tree.specs.TableValue.{alone};
 ghost use Rattle.tree_laws.specs.Trees.{Tree, length_of};
 
+use space::{LONGEST, Spot};
+use std::alloc::{AllocError, Global};
+use std::array::from_fn;
+use std::marker::Model;
+use thiserror::Error;
 use tree_laws::Row;
-
-mod asking;
-mod changing;
 
 /// The most rows that a table can have.
 pub const ROWS: usize = 768;
 
 /// Why a row can't hang on another.
-#[derive(Clone, Copy, Debug, PartialEq, Eq)]
-pub enum Refusal {
+#[derive(Clone, Copy, Debug, PartialEq, Eq, Error)]
+pub enum HangFault {
     /// The row is the driver, which hangs on nothing.
+    #[error("the driver hangs on nothing")]
     Driver,
     /// There is no such row.
+    #[error("there is no such row")]
     NoRow,
     /// The row to hang it on is none.
+    #[error("there is no such row to hang it on")]
     NoParent,
     /// The length is above `LONGEST`.
+    #[error("the length is above {}", LONGEST)]
     TooLong,
     /// The row to hang it on is the row itself or hangs below it.
+    #[error("the row to hang it on is itself or hangs below it")]
     Below,
 }
 
@@ -28,8 +38,175 @@ pub enum Refusal {
 #[derive(Drop)]
 pub struct Table {
     rows: Vec<Row>,
-    ghost room: { 768 ≤ vec_capacity rows },
-    ghost few: { length rows.items ≤ 768 },
-    ghost lengths: { (k : ℕ) → length_of rows.items k ≤ 100000000 },
+    ghost room: { ROWS ≤ vec_capacity rows },
+    ghost few: { length rows.items ≤ ROWS },
+    ghost lengths: { (k : ℕ) → length_of rows.items k ≤ LONGEST },
     ghost tree: { Tree rows.items },
+}
+
+impl Model for Table {
+    ghost use Rattle.tree.specs.TableValue.{TableValue};
+
+    ghost Value = { TableValue };
+
+    ghost view = { λ t. record {
+      rows = t.rows.items;
+      few = t.few;
+      lengths = t.lengths;
+      tree = t.tree;
+    } };
+}
+
+impl Table {
+    ghost use Rattle.std.specs.Prelude.{◌<◌, IfOk};
+    ghost use Rattle.tree_laws.specs.Trees.{Hung, row_of, under, wire_of};
+    ghost use Rattle.tree.specs.Tables.{Added, Changed, Hanging, Paths, path_at, row_at};
+
+    /// The driver alone, with room for `ROWS` rows.
+    pub fn new(heap: Global, driver: Spot) -> Result<Table, AllocError>
+        ensures { IfOk result (λ t. t.rows ≡ alone driver) }
+    {
+        let mut rows = Vec::with_capacity(heap, ROWS)?;
+        rows.push_reserved(root(driver));
+        Ok(Table { rows })
+    }
+
+    /// Starts again with the driver alone.
+    pub fn restart(&mut self, driver: Spot)
+        ensures { self.new.rows ≡ alone driver }
+    {
+        self.rows.clear();
+        self.rows.push_reserved(root(driver));
+    }
+
+    /// How many rows there are, from 1 to `ROWS`.
+    pub fn len(&self) -> usize
+        ensures { result ≡ length self.now.rows }
+    {
+        self.rows.len()
+    }
+
+    /// The row `k`; nothing where there is none.
+    pub fn row(&self, k: usize) -> Option<Row>
+        ensures { result ≡ row_at self.now.rows k }
+    {
+        self.rows.get(k).copied()
+    }
+
+    /// The row `k`; a row of no length on the driver where there is none.
+    pub fn at(&self, k: usize) -> Row
+        ensures row { result ≡ row_of self.now.rows k }
+        ensures short { result.length ≤ LONGEST }
+    {
+        self.row(k).unwrap_or_default()
+    }
+
+    /// The sum of all lengths.
+    pub fn wire(&self) -> u64
+        ensures { result ≡ wire_of self.now.rows }
+    {
+        self.rows.iter().map(|row| row.length).sum()
+    }
+
+    /// The path of the row `k`, the sum of the lengths on the one way from the driver down to it; nothing where there is no such row. Costs
+    /// a turn for each row of the table.
+    pub fn path(&self, k: usize) -> Option<u64>
+        ensures path { result ≡ path_at self.now.rows k }
+        ensures way { k < length self.now.rows → Hung self.now.rows k }
+    {
+        if k >= self.len() {
+            return None;
+        }
+        let mut path = 0;
+        let mut at = k;
+        for _ in 0..self.len() {
+            let row = self.at(at);
+            path += row.length;
+            at = row.parent;
+        }
+        Some(path)
+    }
+
+    /// The path of each row, and 0 for the numbers past the rows.
+    pub(crate) fn paths(&self) -> [u64; ROWS]
+        ensures { Paths self.now.rows result }
+    {
+        from_fn(|k| self.path(k).unwrap_or(0))
+    }
+
+    /// Whether `u` is `v` or hangs below it.
+    pub fn under(&self, u: usize, v: usize) -> bool
+        ensures { result ≡ under self.now.rows u v }
+    {
+        let mut at = u;
+        for _ in 0..self.len() {
+            if at == v {
+                return true;
+            }
+            at = self.at(at).parent;
+        }
+        at == v
+    }
+
+    /// Adds a row on `u` and answers its number; nothing, with the table as it was, where `u` is no row, the length is above `LONGEST`, or
+    /// there are `ROWS` rows.
+    pub fn add(&mut self, u: usize, spot: Spot, length: u64) -> Option<usize>
+        ensures { Added self.old u spot length result self.new }
+    {
+        let k = self.len();
+        if u >= k || length > LONGEST || k >= ROWS {
+            return None;
+        }
+        self.rows.push_reserved(Row {
+            parent: u,
+            spot,
+            length,
+        });
+        Some(k)
+    }
+
+    /// Whether `v` can hang on `u` at a length, or the first reason why it can't.
+    fn can_hang(&self, v: usize, u: usize, length: u64) -> Result<(), HangFault>
+        ensures { Hanging self.now.rows v u length result }
+    {
+        if v == 0 {
+            return Err(HangFault::Driver);
+        }
+        if v >= self.len() {
+            return Err(HangFault::NoRow);
+        }
+        if u >= self.len() {
+            return Err(HangFault::NoParent);
+        }
+        if length > LONGEST {
+            return Err(HangFault::TooLong);
+        }
+        if self.under(u, v) {
+            return Err(HangFault::Below);
+        }
+        Ok(())
+    }
+
+    /// Hangs `v` on `u` at another length; refused, with the table as it was, where `v` is the driver, `v` is no row, `u` is no row, the
+    /// length is above `LONGEST`, or `u` is `v` or under it: the first of these reasons is the error.
+    pub fn hang(&mut self, v: usize, u: usize, length: u64) -> Result<(), HangFault>
+        ensures { Changed self.old v u length result self.new }
+    {
+        self.can_hang(v, u, length)?;
+        let row = &mut self.rows[v];
+        row.parent = u;
+        row.length = length;
+        Ok(())
+    }
+}
+
+/// The row of the driver.
+fn root(spot: Spot) -> Row
+    ensures { result ∷ [] ≡ alone spot }
+{
+    Row {
+        parent: 0,
+        spot,
+        length: 0,
+    }
 }

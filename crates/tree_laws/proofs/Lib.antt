@@ -4,3 +4,5 @@ pub mod Hanging
 pub mod Adding
 pub mod Sharing
 pub mod Steps
+pub mod HookMoves
+pub mod ShareMoves

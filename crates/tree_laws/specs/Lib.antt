@@ -1,1 +1,4 @@
 pub mod Trees
+pub mod Distances
+pub mod Hooks
+pub mod Shares

@@ -4,7 +4,7 @@ ghost use Rattle.net.specs.Nets.{Checked};
 ghost use Rattle.net_laws.specs.declared.fault.Fault.TheVariants.{TooFewPins};
 ghost use Rattle.seed.specs.Seeds.{edges_of};
 ghost use Rattle.span.specs.Lengths.{spot_of};
-ghost use Rattle.tree.specs.Hooks.{reach_of};
+ghost use Rattle.tree_laws.specs.Distances.{reach_of};
 
 use super::Board;
 use crate::asking::apart;

@@ -3,10 +3,8 @@ ghost use Rattle.build_laws.specs.Joining.{Joins};
 ghost use Rattle.joined.specs.Joinings.{Joinable};
 ghost use Rattle.net_laws.specs.States.{with_tree};
 ghost use Rattle.seed.specs.Seeds.{edges_of, nodes_of};
-ghost use Rattle.share.specs.Shares.{join_of};
+ghost use Rattle.tree_laws.specs.Distances.{join_of, reach_of};
 ghost use Rattle.straight.specs.Built.{Straightened};
-ghost use Rattle.tree.specs.Hooks.{reach_of};
-ghost use Rattle.tree.specs.Tables.{rows_of};
 ghost use Rattle.tree_laws.specs.Trees.{wire_of};
 ghost use Rattle.net.specs.Nets.{ReadyAnswer, seen, table_of};
 ghost use Rattle.net.specs.declared.board.holding.Tree.TheVariants.{Standing};
@@ -40,9 +38,9 @@ impl Board {
     ) -> u64
         requires two { 2 ≤ self.old.pins }
         requires whole { length (edges_of self.old.seed) + 1 ≡ length self.old.spots.items }
-        ensures straight { Straightened (reach_of S.Space space.now) self.old.spots.items allowance.p allowance.q self.old.pins (nodes_of self.old.seed) (edges_of self.old.seed) builder.new.broken.items result (rows_of (table_of self.new.tree)) }
+        ensures straight { Straightened (reach_of S.Space space.now) self.old.spots.items allowance.p allowance.q self.old.pins (nodes_of self.old.seed) (edges_of self.old.seed) builder.new.broken.items result (table_of self.new.tree).rows }
         ensures stands { self.new.tree ≡ Standing (table_of self.new.tree) }
-        ensures seen { seen self.new ≡ with_tree (seen self.old) (rows_of (table_of self.new.tree)) }
+        ensures seen { seen self.new ≡ with_tree (seen self.old) (table_of self.new.tree).rows }
     {
         self.tree.stand();
         // The tree stands now; the builder fills its table anew.
@@ -63,10 +61,10 @@ impl Board {
         members: &[usize],
     ) -> u64
         requires stands { self.old.tree ≡ Standing (table_of self.old.tree) }
-        requires joinable { Joinable (rows_of (table_of self.old.tree)) members.now }
-        ensures joins { Joins (reach_of S.Space space.now) (join_of S.Space S.Joining.own space.now) (rows_of (table_of self.old.tree)) members.now (rows_of (table_of self.new.tree)) }
-        ensures wire { result ≡ wire_of (rows_of (table_of self.new.tree)) }
-        ensures seen { seen self.new ≡ with_tree (seen self.old) (rows_of (table_of self.new.tree)) }
+        requires joinable { Joinable (table_of self.old.tree).rows members.now }
+        ensures joins { Joins (reach_of S.Space space.now) (join_of S.Space S.Joining.own space.now) (table_of self.old.tree).rows members.now (table_of self.new.tree).rows }
+        ensures wire { result ≡ wire_of (table_of self.new.tree).rows }
+        ensures seen { seen self.new ≡ with_tree (seen self.old) (table_of self.new.tree).rows }
     {
         let Tree::Standing(table) = &mut self.tree else {
             unreachable!()

@@ -1,13 +1,24 @@
 ghost use Rattle.std.specs.Prelude.{◌≡◌, true, is_err};
 ghost use Rattle.net_laws.specs.Answers.{HookAnswer, ShareAnswer};
 ghost use Rattle.net_laws.specs.Worlds.{cut, joining, wiring};
+ghost use Rattle.net.specs.Moves.{fault_of};
 ghost use Rattle.net.specs.Nets.{seen};
 
 use super::{Board, Tree};
 use net_laws::Fault;
-use share::share_best;
+use share::{ShareFault, share_best};
 use space::{Joining, Space};
 use tree::hook_best;
+
+/// The refusal of a share move as one of the net.
+fn fault_of(refusal: ShareFault) -> Fault
+    ensures { result ≡ fault_of refusal }
+{
+    match refusal {
+        ShareFault::Nothing => Fault::NoMove,
+        ShareFault::Full => Fault::TooManyRows,
+    }
+}
 
 impl Board {
     /// Makes the best hook move of the tree and answers what it saves.
@@ -29,6 +40,6 @@ impl Board {
         let Tree::Standing(table) = &mut self.tree else {
             return Err(Fault::NoTree);
         };
-        Ok(share_best(space, table)?)
+        share_best(space, table).map_err(fault_of)
     }
 }

@@ -1,7 +1,7 @@
 ghost use Rattle.std.specs.Prelude.{◌≡◌};
 ghost use Rattle.net_laws.specs.Readings.{PathAnswer, RowAnswer, RowsAnswer, WorstAnswer};
 ghost use Rattle.span.specs.Lengths.{length_of};
-ghost use Rattle.tree.specs.Hooks.{reach_of};
+ghost use Rattle.tree_laws.specs.Distances.{reach_of};
 
 use super::Net;
 use net_laws::{Fault, Reach, Worst};

@@ -1,6 +1,6 @@
 use Rattle.std.proofs.Common.{rules}
 use Rattle.std.proofs.lemmas.Fn.{filter_same}
-use Rattle.joined.specs.Joinings.{others}
+use Rattle.build_laws.specs.Joining.{others}
 use Rattle.joined.proofs.joining.leave.Goals as goal
 
 pub returns-clause-items : goal.returns-clause-items

@@ -1,13 +1,15 @@
 use Rattle.std.proofs.Common.{◌≡◌, ℕ, Some, None, Err, Option, Result, refl, subst, rules}
 use Rattle.order.specs.Bests.{BestOf}
 use Rattle.tree_laws.proofs.Ways.{hung}
-use Rattle.tree.specs.Hooks.{reach_of}
-use Rattle.tree.specs.Tables.{rows_of}
-use Rattle.share.specs.declared.share.Share.{Share}
-use Rattle.share.specs.declared.sharing.Unshared.{Unshared}
-use Rattle.share.specs.declared.sharing.Unshared.TheVariants.{Nothing, Full}
-use Rattle.share.specs.Shares.{Parted, ShareMove, Shared, join_of, share_before}
-use Rattle.share.proofs.Measures.{best_measured, gained_measured}
+use Rattle.tree_laws.specs.Distances.{join_of, reach_of}
+use Rattle.tree_laws.specs.Shares.{ShareMove, share_before}
+use Rattle.tree_laws.specs.declared.share.Share.{Share}
+use Rattle.share.specs.declared.sharing.ShareFault.{ShareFault}
+use Rattle.share.specs.declared.sharing.ShareFault.TheVariants.{Nothing, Full}
+use Rattle.share.specs.Meets.{MeetInserted}
+use Rattle.share.specs.Shares.{Shared}
+use Rattle.tree_laws.proofs.ShareMoves.{best_measured}
+use Rattle.share.proofs.Gaining.{gained_measured}
 use Rattle.share.proofs.Placing.{full_table}
 use Rattle.share.proofs.sharing.share_best.Goals as goal
 
@@ -17,12 +19,12 @@ returns-in_err-share g c =
     let J = g.S.Joining in
     let s = c.args.space.now in
     let t = c.args.table.now in
-    let B : Option Share → Type 0 = BestOf share_before (ShareMove (rows_of t) (reach_of G s) (join_of G J s)) in
-    let R : Result ℕ Unshared → Type 0 = λ r. Shared G J s t r t in
+    let B : Option Share → Type 0 = BestOf share_before (ShareMove t.rows (reach_of G s) (join_of G J s)) in
+    let R : Result ℕ ShareFault → Type 0 = λ r. Shared G J s t r t in
     let none : c.best.result ≡ None = search rules in
     let b = subst B none c.best.ensures in
     let is : Err Nothing ≡ c.from_residual.result = search rules in
-    subst R is (b, λ p. best_measured G J s (rows_of t) (g.met.S.Space.metric s) (g.met.S.Joining.meets s) p None b, refl)
+    subst R is (b, λ p. best_measured G J s t.rows (g.met.S.Space.metric s) (g.met.S.Joining.meets s) p None b, refl)
 
 pub returns-in_err-ok_or : goal.returns-in_err-ok_or
 returns-in_err-ok_or g c =
@@ -30,21 +32,21 @@ returns-in_err-ok_or g c =
     let J = g.S.Joining in
     let s = c.args.space.now in
     let t = c.args.table.now in
-    let after = c.part.new.table in
+    let after = c.insert_meet.new.table in
     let m = c.in_ok-share.share in
-    let B : Option Share → Type 0 = BestOf share_before (ShareMove (rows_of t) (reach_of G s) (join_of G J s)) in
-    let P : Option ℕ → Type 0 = λ r. Parted (reach_of G s) (join_of G J s) t m.v m.a m.b r after in
-    let R : Result ℕ Unshared → Type 0 = λ r. Shared G J s t r after in
+    let B : Option Share → Type 0 = BestOf share_before (ShareMove t.rows (reach_of G s) (join_of G J s)) in
+    let P : Option ℕ → Type 0 = λ r. MeetInserted G J s t m.v m.a m.b r after in
+    let R : Result ℕ ShareFault → Type 0 = λ r. Shared G J s t r after in
     let found : c.best.result ≡ Some m = search rules in
-    let none : c.part.result ≡ None = search rules in
+    let none : c.insert_meet.result ≡ None = search rules in
     let b = subst B found c.best.ensures in
-    let e = subst P none c.part.ensures in
+    let e = subst P none c.insert_meet.ensures in
     let is : Err Full ≡ c.from_residual-in_err-ok_or.result = search rules in
     subst R is (
       record {
         move = m;
         best = b;
-        own = λ p. best_measured G J s (rows_of t) (g.met.S.Space.metric s) (g.met.S.Joining.meets s) p (Some m) b;
+        own = λ p. best_measured G J s t.rows (g.met.S.Space.metric s) (g.met.S.Joining.meets s) p (Some m) b;
         full = full_table t (reach_of G s) (join_of G J s) m b.0 e.0;
       },
       e.1,
@@ -56,19 +58,19 @@ returns g c =
     let J = g.S.Joining in
     let s = c.args.space.now in
     let t = c.args.table.now in
-    let after = c.part.new.table in
+    let after = c.insert_meet.new.table in
     let m = c.in_ok-share.share in
-    let B : Option Share → Type 0 = BestOf share_before (ShareMove (rows_of t) (reach_of G s) (join_of G J s)) in
-    let P : Option ℕ → Type 0 = λ r. Parted (reach_of G s) (join_of G J s) t m.v m.a m.b r after in
+    let B : Option Share → Type 0 = BestOf share_before (ShareMove t.rows (reach_of G s) (join_of G J s)) in
+    let P : Option ℕ → Type 0 = λ r. MeetInserted G J s t m.v m.a m.b r after in
     let found : c.best.result ≡ Some m = search rules in
-    let made : c.part.result ≡ Some c.in_ok-ok_or.field-0 = search rules in
+    let made : c.insert_meet.result ≡ Some c.in_ok-ok_or.field-0 = search rules in
     let b = subst B found c.best.ensures in
-    let e = subst P made c.part.ensures in
+    let e = subst P made c.insert_meet.ensures in
     record {
       move = m;
       best = b;
       saving = refl;
       shared = e.2;
       tree = hung after.tree;
-      gained = λ p. gained_measured G J s (rows_of t) (g.met.S.Space.metric s) (g.met.S.Joining.meets s) p t.tree m (rows_of after) b e.2;
+      gained = λ p. gained_measured G J s t.rows (g.met.S.Space.metric s) (g.met.S.Joining.meets s) p t.tree m after.rows b e.2;
     }

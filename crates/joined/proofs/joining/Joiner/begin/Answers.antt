@@ -1,7 +1,5 @@
 use Rattle.std.proofs.Common.{ℕ, List, length, vec_items, sym, ap, subst, arith}
-use Rattle.share.specs.Shares.{join_of}
-use Rattle.tree.specs.Hooks.{reach_of}
-use Rattle.tree.specs.Tables.{rows_of}
+use Rattle.tree_laws.specs.Distances.{join_of, reach_of}
 use Rattle.joined.specs.Joinings.{Joinable}
 use Rattle.joined.specs.Pairs.{Firsts}
 use Rattle.joined.proofs.Stepping.{standing_start}
@@ -10,7 +8,7 @@ use Rattle.joined.proofs.joining.Joiner.begin.Goals as goal
 pub returns-clause-standing : goal.returns-clause-standing
 returns-clause-standing g c =
     let t = c.args.table.now in
-    let rows = rows_of t in
+    let rows = t.rows in
     let d = reach_of g.S.Space c.args.space.now in
     let j = join_of g.S.Space g.S.Joining c.args.space.now in
     let group = vec_items c.fill.new.group in

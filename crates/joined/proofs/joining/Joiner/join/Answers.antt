@@ -1,11 +1,10 @@
-use Rattle.std.proofs.Common.{◌≡◌, List, vec_items, sym, ap, ◌∙◌, subst, arith}
+use Rattle.std.proofs.Common.{◌≡◌, List, vec_items, sym, ap, ◌∙◌, refl, subst, arith}
 use Rattle.build_laws.specs.Joining.{Joins}
 use Rattle.build_laws.specs.Joining.Joins.{done}
-use Rattle.share.specs.Shares.{join_of}
+use Rattle.tree_laws.specs.Distances.{join_of, reach_of}
 use Rattle.tree_laws.specs.declared.Row.{Row}
 use Rattle.tree_laws.proofs.Ways.{hung}
-use Rattle.tree.specs.Hooks.{reach_of}
-use Rattle.tree.specs.Tables.{rows_of}
+use Rattle.tree.specs.declared.table.Table.{Table}
 use Rattle.joined.proofs.Keeping.{among_empty}
 use Rattle.joined.proofs.Owning.{owned}
 use Rattle.joined.proofs.joining.Joiner.join.Goals as goal
@@ -17,17 +16,17 @@ returns g c =
     let t = c.args.table.now in
     let d = reach_of g.S.Space s in
     let j = join_of g.S.Space g.S.Joining s in
-    let rows = rows_of t in
-    let after = rows_of c.loop-test.table in
+    let rows = t.rows in
+    let after = c.loop-test.table.rows in
     let group = vec_items c.loop.self.group in
-    let fits = c.if-not-joinable.ensures in
+    let fits = c.if-not-joinable.ensures.0 refl in
     let P : List Row → Type 0 = λ xs. Joins d j rows c.args.members.now xs in
-    let end = c.loop.invariant.2 (rows_of c.loop.table) in
-    let all : P (rows_of c.loop.table) × (after ≡ rows_of c.loop.table) =
+    let end = c.loop.invariant.2 c.loop.table.rows in
+    let all : P c.loop.table.rows × (after ≡ c.loop.table.rows) =
     elim c.loop-test.branch [
       | else-loop-test w ↦
-          (end (done (λ a b p. absurd (among_empty group a p.first (omega (arith, c.loop.invariant.1, w.loop-test.false))))), ap rows_of w.table-is)
-      | then-loop-test+then-not-step w ↦ (end (done w.if-not-step.ensures.1), ap rows_of w.table-is ∙ w.if-not-step.ensures.0)
+          (end (done (λ a b p. absurd (among_empty group a p.first (omega (arith, c.loop.invariant.1, w.loop-test.false))))), ap (λ (x : Table). x.rows) w.table-is)
+      | then-loop-test+then-not-step w ↦ (end (done w.if-not-step.ensures.1), ap (λ (x : Table). x.rows) w.table-is ∙ w.if-not-step.ensures.0)
     ]
     in
     let joins = subst P (sym all.1) all.0 in

@@ -1,9 +1,7 @@
 use Rattle.std.proofs.Common.{◌+◌, ◌≤◌, List, length, vec_items}
 use Rattle.build_laws.specs.Joining.{Joins}
-use Rattle.share.specs.Shares.{join_of}
+use Rattle.tree_laws.specs.Distances.{join_of, reach_of}
 use Rattle.tree_laws.specs.declared.Row.{Row}
-use Rattle.tree.specs.Hooks.{reach_of}
-use Rattle.tree.specs.Tables.{rows_of}
 use Rattle.joined.specs.Joinings.{Standing}
 use Rattle.joined.proofs.joining.Joiner.join.Given as goal
 
@@ -12,6 +10,6 @@ abbrev pub invariant-loop : goal.invariant-loop
 invariant-loop g l =
     let d = reach_of g.S.Space l.space in
     let j = join_of g.S.Space g.S.Joining l.space in
-    Standing d j (rows_of l.table) (vec_items l.self.group) (vec_items l.self.partners)
+    Standing d j l.table.rows (vec_items l.self.group) (vec_items l.self.partners)
     × (length (vec_items l.self.group) + l.counter ≤ length l.members)
-    × ((end : List Row) → Joins d j (rows_of l.table) (vec_items l.self.group) end → Joins d j (rows_of l.initial.table) l.members end)
+    × ((end : List Row) → Joins d j l.table.rows (vec_items l.self.group) end → Joins d j l.initial.table.rows l.members end)

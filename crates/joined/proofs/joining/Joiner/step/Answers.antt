@@ -1,12 +1,10 @@
 use Rattle.std.proofs.Common.{◌≡◌, ℕ, ◌<◌, List, [], ◌∷◌, ◌++◌, length, Some, None, vec_items, filter, refl, ap, ◌∙◌, subst, arith}
 use Rattle.order.specs.Firsts.{FirstOf}
-use Rattle.build_laws.specs.Joining.{far_of}
-use Rattle.share.specs.Shares.{join_of}
-use Rattle.tree.specs.Hooks.{reach_of}
-use Rattle.tree.specs.Tables.{rows_of}
-use Rattle.joined.specs.declared.pair.Pair.{Pair}
-use Rattle.joined.specs.Joinings.{others}
-use Rattle.joined.specs.Pairs.{Firsts, pair_before}
+use Rattle.build_laws.specs.Joining.{far_of, others}
+use Rattle.tree_laws.specs.Distances.{join_of, reach_of}
+use Rattle.build_laws.specs.declared.pair.Pair.{Pair}
+use Rattle.joined.specs.Pairs.{Firsts}
+use Rattle.build_laws.specs.Pairs.{pair_before}
 use Rattle.joined.proofs.Keeping.{kept_few}
 use Rattle.joined.proofs.Partnering.{best_farthest, best_near, best_none, firsts_best}
 use Rattle.joined.proofs.Stepping.{ready_at, rising_at, shorter_at, step_parts, stepped_at}
@@ -14,7 +12,7 @@ use Rattle.joined.proofs.joining.Joiner.step.Goals as goal
 
 pub returns-in_default : goal.returns-in_default
 returns-in_default g c =
-    let rows = rows_of c.args.table.now in
+    let rows = c.args.table.now.rows in
     let d = reach_of g.S.Space c.args.space.now in
     let j = join_of g.S.Space g.S.Joining c.args.space.now in
     let group = vec_items c.args.self.now.group in
@@ -24,7 +22,7 @@ returns-in_default g c =
 
 pub returns-then-pair-eq0 : goal.returns-then-pair-eq0
 returns-then-pair-eq0 g c =
-    let rows = rows_of c.args.table.now in
+    let rows = c.args.table.now.rows in
     let d = reach_of g.S.Space c.args.space.now in
     let j = join_of g.S.Space g.S.Joining c.args.space.now in
     let group = vec_items c.args.self.now.group in
@@ -33,10 +31,10 @@ returns-then-pair-eq0 g c =
     let P : List Pair → Type 0 = λ xs. FirstOf pair_before xs (Some p) in
     (refl, best_near d j rows group p (firsts_best d j rows group F (Some p) c.requires.firsts (subst P c.as_slice.ensures.value c.in-Some.ensures.first)) c.if-pair-eq0.true)
 
-pub returns-in_default-part : goal.returns-in_default-part
-returns-in_default-part g c =
+pub returns-in_default-insert_meet : goal.returns-in_default-insert_meet
+returns-in_default-insert_meet g c =
     let t = c.args.table.now in
-    let rows = rows_of t in
+    let rows = t.rows in
     let d = reach_of g.S.Space c.args.space.now in
     let j = join_of g.S.Space g.S.Joining c.args.space.now in
     let group = vec_items c.args.self.now.group in
@@ -44,7 +42,7 @@ returns-in_default-part g c =
     let p = c.in-Some.pair in
     let P : List Pair → Type 0 = λ xs. FirstOf pair_before xs (Some p) in
     let best = firsts_best d j rows group F (Some p) c.requires.firsts (subst P c.as_slice.ensures.value c.in-Some.ensures.first) in
-    absurd (c.in_default-part.ensures.0 (step_parts d j rows t.tree group F c.requires p.a p.b best.0.pair))
+    absurd (c.in_default-insert_meet.ensures.0 (step_parts d j rows t.tree group F c.requires p.a p.b best.0.pair))
 
 pub push_reserved-requires : goal.push_reserved-requires
 push_reserved-requires g c =
@@ -63,7 +61,7 @@ push_reserved-requires g c =
 pub invariant_of-group-clause-few : goal.invariant_of-group-clause-few
 invariant_of-group-clause-few g c =
     let t = c.args.table.now in
-    let rows = rows_of t in
+    let rows = t.rows in
     let d = reach_of g.S.Space c.args.space.now in
     let j = join_of g.S.Space g.S.Joining c.args.space.now in
     let group = vec_items c.args.self.now.group in
@@ -71,16 +69,16 @@ invariant_of-group-clause-few g c =
     let p = c.in-Some.pair in
     let P : List Pair → Type 0 = λ xs. FirstOf pair_before xs (Some p) in
     let best = firsts_best d j rows group F (Some p) c.requires.firsts (subst P c.as_slice.ensures.value c.in-Some.ensures.first) in
-    let parted = c.in-Some-part.ensures in
+    let parted = c.in-Some-insert_meet.ensures in
     let left = c.as_slice-2.result.now in
-    let e : left ≡ filter (others p.a p.b) group ++ c.in-Some-part.new ∷ [] =
-    c.as_slice-2.ensures.value ∙ c.push_reserved.ensures.items ∙ ap (λ xs. xs ++ c.in-Some-part.new ∷ []) c.leave.ensures.items in
-    omega (arith, shorter_at d j rows t.tree group F c.requires p.a p.b best.0.pair (rows_of c.part.new.table) left c.in-Some-part.new parted.2 parted.1 e, c.requires.room)
+    let e : left ≡ filter (others p.a p.b) group ++ c.in-Some-insert_meet.new ∷ [] =
+    c.as_slice-2.ensures.value ∙ c.push_reserved.ensures.items ∙ ap (λ xs. xs ++ c.in-Some-insert_meet.new ∷ []) c.leave.ensures.items in
+    omega (arith, shorter_at d j rows t.tree group F c.requires p.a p.b best.0.pair c.insert_meet.new.table.rows left c.in-Some-insert_meet.new parted.2 parted.1 e, c.requires.room)
 
 pub invariant_of-group-clause-rising : goal.invariant_of-group-clause-rising
 invariant_of-group-clause-rising g c =
     let t = c.args.table.now in
-    let rows = rows_of t in
+    let rows = t.rows in
     let d = reach_of g.S.Space c.args.space.now in
     let j = join_of g.S.Space g.S.Joining c.args.space.now in
     let group = vec_items c.args.self.now.group in
@@ -88,16 +86,16 @@ invariant_of-group-clause-rising g c =
     let p = c.in-Some.pair in
     let P : List Pair → Type 0 = λ xs. FirstOf pair_before xs (Some p) in
     let best = firsts_best d j rows group F (Some p) c.requires.firsts (subst P c.as_slice.ensures.value c.in-Some.ensures.first) in
-    let parted = c.in-Some-part.ensures in
+    let parted = c.in-Some-insert_meet.ensures in
     let left = c.as_slice-2.result.now in
-    let e : left ≡ filter (others p.a p.b) group ++ c.in-Some-part.new ∷ [] =
-    c.as_slice-2.ensures.value ∙ c.push_reserved.ensures.items ∙ ap (λ xs. xs ++ c.in-Some-part.new ∷ []) c.leave.ensures.items in
-    rising_at d j rows t.tree group F c.requires p.a p.b best.0.pair (rows_of c.part.new.table) left c.in-Some-part.new parted.2 parted.1 e
+    let e : left ≡ filter (others p.a p.b) group ++ c.in-Some-insert_meet.new ∷ [] =
+    c.as_slice-2.ensures.value ∙ c.push_reserved.ensures.items ∙ ap (λ xs. xs ++ c.in-Some-insert_meet.new ∷ []) c.leave.ensures.items in
+    rising_at d j rows t.tree group F c.requires p.a p.b best.0.pair c.insert_meet.new.table.rows left c.in-Some-insert_meet.new parted.2 parted.1 e
 
 pub renew-requires-clause-ready : goal.renew-requires-clause-ready
 renew-requires-clause-ready g c =
     let t = c.args.table.now in
-    let rows = rows_of t in
+    let rows = t.rows in
     let d = reach_of g.S.Space c.args.space.now in
     let j = join_of g.S.Space g.S.Joining c.args.space.now in
     let group = vec_items c.args.self.now.group in
@@ -105,16 +103,16 @@ renew-requires-clause-ready g c =
     let p = c.in-Some.pair in
     let P : List Pair → Type 0 = λ xs. FirstOf pair_before xs (Some p) in
     let best = firsts_best d j rows group F (Some p) c.requires.firsts (subst P c.as_slice.ensures.value c.in-Some.ensures.first) in
-    let parted = c.in-Some-part.ensures in
+    let parted = c.in-Some-insert_meet.ensures in
     let left = c.as_slice-2.result.now in
-    let e : left ≡ filter (others p.a p.b) group ++ c.in-Some-part.new ∷ [] =
-    c.as_slice-2.ensures.value ∙ c.push_reserved.ensures.items ∙ ap (λ xs. xs ++ c.in-Some-part.new ∷ []) c.leave.ensures.items in
-    ready_at d j rows t.tree group F c.requires p.a p.b best.0.pair (rows_of c.part.new.table) left c.in-Some-part.new parted.2 parted.1 e F refl
+    let e : left ≡ filter (others p.a p.b) group ++ c.in-Some-insert_meet.new ∷ [] =
+    c.as_slice-2.ensures.value ∙ c.push_reserved.ensures.items ∙ ap (λ xs. xs ++ c.in-Some-insert_meet.new ∷ []) c.leave.ensures.items in
+    ready_at d j rows t.tree group F c.requires p.a p.b best.0.pair c.insert_meet.new.table.rows left c.in-Some-insert_meet.new parted.2 parted.1 e F refl
 
 pub returns : goal.returns
 returns g c =
     let t = c.args.table.now in
-    let rows = rows_of t in
+    let rows = t.rows in
     let d = reach_of g.S.Space c.args.space.now in
     let j = join_of g.S.Space g.S.Joining c.args.space.now in
     let group = vec_items c.args.self.now.group in
@@ -122,14 +120,14 @@ returns g c =
     let p = c.in-Some.pair in
     let P : List Pair → Type 0 = λ xs. FirstOf pair_before xs (Some p) in
     let best = firsts_best d j rows group F (Some p) c.requires.firsts (subst P c.as_slice.ensures.value c.in-Some.ensures.first) in
-    let parted = c.in-Some-part.ensures in
+    let parted = c.in-Some-insert_meet.ensures in
     let left = vec_items c.push_reserved.new.self in
     let G = vec_items c.renew.new.partners in
-    let e : left ≡ filter (others p.a p.b) group ++ c.in-Some-part.new ∷ [] =
-    c.push_reserved.ensures.items ∙ ap (λ xs. xs ++ c.in-Some-part.new ∷ []) c.leave.ensures.items in
-    let Q : List ℕ → Type 0 = λ xs. Firsts d j (rows_of c.part.new.table) xs G in
+    let e : left ≡ filter (others p.a p.b) group ++ c.in-Some-insert_meet.new ∷ [] =
+    c.push_reserved.ensures.items ∙ ap (λ xs. xs ++ c.in-Some-insert_meet.new ∷ []) c.leave.ensures.items in
+    let Q : List ℕ → Type 0 = λ xs. Firsts d j c.insert_meet.new.table.rows xs G in
     let far : 0 < far_of d j rows p.a p.b = omega (arith, best.0.long, c.if-pair-eq0.false) in
-    stepped_at d j rows t.tree group F c.requires p.a p.b best.0.pair (rows_of c.part.new.table) left c.in-Some-part.new parted.2 parted.1 e G
+    stepped_at d j rows t.tree group F c.requires p.a p.b best.0.pair c.insert_meet.new.table.rows left c.in-Some-insert_meet.new parted.2 parted.1 e G
     (subst Q c.as_slice-2.ensures.value c.renew.ensures.firsts)
     c.renew.ensures.few
     (best_farthest d j rows group p best)

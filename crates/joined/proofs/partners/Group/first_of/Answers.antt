@@ -1,17 +1,15 @@
 use Rattle.std.proofs.Common.{rules}
 use Rattle.order.proofs.Deciding.{Below, found_best}
-use Rattle.share.specs.Shares.{join_of}
-use Rattle.tree.specs.Hooks.{reach_of}
-use Rattle.tree.specs.Tables.{rows_of}
+use Rattle.tree_laws.specs.Distances.{join_of, reach_of}
 use Rattle.joined.specs.Pairs.{PartnerAt}
-use Rattle.joined.specs.Orders.{pair_order}
+use Rattle.build_laws.specs.Pairs.{pair_order}
 use Rattle.joined.proofs.Partnering.{until_best}
 use Rattle.joined.proofs.partners.Group.first_of.Goals as goal
 
 pub returns : goal.returns
 returns g c =
     let group = c.args.self.now.members.now in
-    let rows = rows_of c.args.self.now.table.now in
+    let rows = c.args.self.now.table.now.rows in
     let d = reach_of g.S.Space c.args.self.now.space.now in
     let j = join_of g.S.Space g.S.Joining c.args.self.now.space.now in
     let b = c.args.b in

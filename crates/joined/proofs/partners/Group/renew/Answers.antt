@@ -1,15 +1,13 @@
 use Rattle.std.proofs.Common.{List, sym, subst, vec_items, rules}
-use Rattle.share.specs.Shares.{join_of}
-use Rattle.tree.specs.Hooks.{reach_of}
-use Rattle.tree.specs.Tables.{rows_of}
-use Rattle.joined.specs.declared.pair.Pair.{Pair}
+use Rattle.tree_laws.specs.Distances.{join_of, reach_of}
+use Rattle.build_laws.specs.declared.pair.Pair.{Pair}
 use Rattle.joined.specs.Pairs.{Firsts}
 use Rattle.joined.proofs.Partnering.{never_farther, renewed, renewed_none, renewed_some}
 use Rattle.joined.proofs.partners.Group.renew.Goals as goal
 
 pub returns-in-Some-clause-firsts : goal.returns-in-Some-clause-firsts
 returns-in-Some-clause-firsts g c =
-    let rows = rows_of c.args.self.now.table.now in
+    let rows = c.args.self.now.table.now.rows in
     let d = reach_of g.S.Space c.args.self.now.space.now in
     let j = join_of g.S.Space g.S.Joining c.args.self.now.space.now in
     let group = c.args.self.now.members.now in
@@ -24,7 +22,7 @@ returns-in-Some-clause-firsts g c =
 
 pub returns-in_default-clause-firsts : goal.returns-in_default-clause-firsts
 returns-in_default-clause-firsts g c =
-    let rows = rows_of c.args.self.now.table.now in
+    let rows = c.args.self.now.table.now.rows in
     let d = reach_of g.S.Space c.args.self.now.space.now in
     let j = join_of g.S.Space g.S.Joining c.args.self.now.space.now in
     let group = c.args.self.now.members.now in

@@ -1,10 +1,8 @@
 use Rattle.std.proofs.Common.{◌≡◌, ℕ, ◌+◌, List, get_or, take, vec_items, sym, ◌∙◌, subst, arith}
 use Rattle.std.proofs.lemmas.List.{take_all}
 use Rattle.order.specs.Firsts.{Among}
-use Rattle.share.specs.Shares.{join_of}
-use Rattle.tree.specs.Hooks.{reach_of}
-use Rattle.tree.specs.Tables.{rows_of}
-use Rattle.joined.specs.declared.pair.Pair.{Pair}
+use Rattle.tree_laws.specs.Distances.{join_of, reach_of}
+use Rattle.build_laws.specs.declared.pair.Pair.{Pair}
 use Rattle.joined.specs.Pairs.{FirstsOf}
 use Rattle.joined.proofs.Partnering.{firsts_push, firsts_same, held, never_farther}
 use Rattle.joined.proofs.Keeping.{among_here, among_next}
@@ -13,7 +11,7 @@ use Rattle.joined.proofs.partners.Group.start.Goals.{in-Some, in_default}
 
 pub loop-member-preserved : goal.loop-member-preserved
 loop-member-preserved g c =
-    let rows = rows_of c.args.self.now.table.now in
+    let rows = c.args.self.now.table.now.rows in
     let d = reach_of g.S.Space c.args.self.now.space.now in
     let j = join_of g.S.Space g.S.Joining c.args.self.now.space.now in
     let group = c.args.self.now.members.now in
@@ -39,7 +37,7 @@ loop-member-preserved g c =
 
 pub returns-clause-firsts : goal.returns-clause-firsts
 returns-clause-firsts g c =
-    let rows = rows_of c.args.self.now.table.now in
+    let rows = c.args.self.now.table.now.rows in
     let d = reach_of g.S.Space c.args.self.now.space.now in
     let j = join_of g.S.Space g.S.Joining c.args.self.now.space.now in
     let group = c.args.self.now.members.now in

@@ -5,16 +5,14 @@ use Rattle.net_laws.specs.Worlds.{joining}
 use Rattle.net_laws.proofs.Sparing.{joined_bounds, joined_shorter, joined_spared}
 use Rattle.net.specs.Nets.{seen, table_of}
 use Rattle.net.proofs.Owned.{joining_keeps_lem, whole_joined}
-use Rattle.share.specs.Shares.{join_of}
-use Rattle.tree.specs.Hooks.{reach_of}
-use Rattle.tree.specs.Tables.{rows_of}
+use Rattle.tree_laws.specs.Distances.{join_of, reach_of}
 use Rattle.net.proofs.Breaks.{joined_told, straight_joinable}
 use Rattle.net.proofs.net.Net.joined.Goals as goal
 
 pub join-requires : goal.join-requires
 join-requires g c =
     let b = c.self.inside.board in
-    let P : List ℕ → Type 0 = λ xs. Joinable (rows_of (table_of c.straight.new.self.tree)) xs in
+    let P : List ℕ → Type 0 = λ xs. Joinable (table_of c.straight.new.self.tree).rows xs in
     record {
       stands = c.straight.ensures.stands;
       joinable = subst P (sym c.broken-broken.ensures) (straight_joinable _ _ _ _ _ _ _ c.straight.ensures.straight (omega (arith, b.nodes, b.points, b.few)));
@@ -29,7 +27,7 @@ invariant_of-self g c =
     let law = g.met.S.Space.metric s in
     let meets = g.met.S.Joining.meets s in
     let t = c.straight.ensures in
-    let P : List ℕ → Type 0 = λ xs. Joins (reach_of G s) (join_of G J s) (rows_of (table_of c.straight.new.self.tree)) xs (rows_of (table_of c.join.new.self.tree)) in
+    let P : List ℕ → Type 0 = λ xs. Joins (reach_of G s) (join_of G J s) (table_of c.straight.new.self.tree).rows xs (table_of c.join.new.self.tree).rows in
     let x = joined_told G J s n.board c.straight.new.self c.join.new.self c.in_ok-allowance.allowance _ c.straight.result c.join.result c.in_ok-allowance.ensures t.straight t.seen (subst P c.broken-broken.ensures c.join.ensures.joins) c.join.ensures.wire c.join.ensures.seen in
     let whole = whole_joined G J s law meets (seen n.board) (seen c.join.new.self) (Ok c.join.result) x tt c.self.invariant in
     whole.1
@@ -43,7 +41,7 @@ returns g c =
     let law = g.met.S.Space.metric s in
     let meets = g.met.S.Joining.meets s in
     let t = c.straight.ensures in
-    let P : List ℕ → Type 0 = λ xs. Joins (reach_of G s) (join_of G J s) (rows_of (table_of c.straight.new.self.tree)) xs (rows_of (table_of c.join.new.self.tree)) in
+    let P : List ℕ → Type 0 = λ xs. Joins (reach_of G s) (join_of G J s) (table_of c.straight.new.self.tree).rows xs (table_of c.join.new.self.tree).rows in
     let x = joined_told G J s n.board c.straight.new.self c.join.new.self c.in_ok-allowance.allowance _ c.straight.result c.join.result c.in_ok-allowance.ensures t.straight t.seen (subst P c.broken-broken.ensures c.join.ensures.joins) c.join.ensures.wire c.join.ensures.seen in
     let whole = whole_joined G J s law meets (seen n.board) (seen c.join.new.self) (Ok c.join.result) x tt c.self.invariant in
     let laws = joining_keeps_lem G J s law meets in

@@ -1,7 +1,6 @@
 use Rattle.std.proofs.Common.{◌≡◌, subst}
 use Rattle.net_laws.specs.Readings.{WorstOf}
 use Rattle.span.specs.Lengths.{length_of}
-use Rattle.tree.specs.Tables.{rows_of}
 use Rattle.net.specs.Nets.{seen}
 use Rattle.net.specs.declared.board.Board.{Board}
 use Rattle.net.specs.declared.board.holding.Tree.TheVariants.{Standing}
@@ -15,7 +14,7 @@ returns g c =
     let s = n.space in
     let b = n.board in
     let t = c.in_ok-standing.field-0.table.now in
-    let rows = rows_of t in
+    let rows = t.rows in
     let e = c.in_ok-standing.ensures.some in
     let Up : Board → Type 0 = λ x. x.tree ≡ Standing t in
     let Worst : Board → Type 0 = λ x. WorstOf (length_of g.S.Space s) (seen x) rows c.worst.result in

@@ -1,7 +1,6 @@
 use Rattle.std.proofs.Common.{◌≡◌, ◌+◌, length, vec_items, sym, ◌∙◌, arith}
 use Rattle.seed.specs.Seeds.{edges_of, nodes_of}
-use Rattle.tree.specs.Hooks.{reach_of}
-use Rattle.tree.specs.Tables.{rows_of}
+use Rattle.tree_laws.specs.Distances.{reach_of}
 use Rattle.walk.specs.Tables.{rows_of as walkRows}
 use Rattle.straight.proofs.Spaced.{laid_measures}
 use Rattle.straight.proofs.Whole.{tree_from_test, whole_falls, whole_straight}
@@ -33,7 +32,7 @@ returns g c =
     let old = walkRows c.measure.new.walk in
     let new = walkRows c.walk.new.self in
     let found = vec_items c.lay.new.broken in
-    let built = rows_of c.lay.new.tree in
+    let built = c.lay.new.tree.rows in
     let tree : length E + 1 ≡ n = tree_from_test (length E + 1) n c.if-not-tree.ensures.test in
     let size : n ≡ length spots = sym c.nodes.ensures ∙ c.if-nodes-spots.false in
     let done = whole_straight d spots a.p a.q c.args.pins n E old new c.walk.result (omega (arith, a.within.1)) seed.sound tree size c.measure.ensures c.walk.ensures.taken c.walk.ensures.walked c.walk.ensures.kept found c.wire.result built c.lay.ensures.rows c.lay.ensures.found c.wire.ensures in (

@@ -1,7 +1,7 @@
 use Rattle.std.proofs.Common.{◌≡◌, ◌+◌, ◌<◌, ◌≤◌, true, false, List, [], ◌∷◌, ◌++◌, length, sym, ap, ◌∙◌, subst, arith}
 use Rattle.tree_laws.specs.declared.Row.{Row}
 use Rattle.tree_laws.specs.Trees.{hang}
-use Rattle.tree.specs.Tables.{Changed, rows_of}
+use Rattle.tree.specs.Tables.{Changed}
 use Rattle.tree.proofs.Hooking.{changed_hangs}
 use Rattle.tree.proofs.Tabled.{tree_of}
 use Rattle.walk.specs.declared.row.Mark.{Mark}
@@ -31,7 +31,7 @@ loop-v-preserved c =
       | then-mark x ↦
           let b : (S i).broken ≡ true = ap (λ (m : Mark). m.broken) (sym c.mark-mark.ensures) ∙ x.if-mark.true in
           rw (x.broken-is, x.tree-is) (
-            laying_break R S place n i (rows_of t) f one l less b,
+            laying_break R S place n i t.rows f one l less b,
             x.push_reserved.ensures.items ∙ ap (λ xs. xs ++ i ∷ []) c.loop-v.invariant.1 ∙ sym (breakpoints_push S i b),
             omega (arith, x.push_reserved.ensures.len, c.loop-v.invariant.2),
             x.push_reserved.ensures.capacity ∙ c.loop-v.invariant.3,
@@ -40,10 +40,10 @@ loop-v-preserved c =
           let b : (S i).broken ≡ false = ap (λ (m : Mark). m.broken) (sym c.mark-mark.ensures) ∙ x.if-mark.false in
           let C : Mark → Type 0 = λ m. Changed t i m.parent m.edge x.hang.result x.hang.new.self in
           let P : List Row → Type 0 = λ rows. Laying R S place n (i + 1) rows in
-          let e : rows_of x.hang.new.self ≡ hang (rows_of t) i (S i).parent (S i).edge =
-          changed_hangs t i (S i).parent (S i).edge x.hang.result x.hang.new.self (subst C c.mark-mark.ensures x.hang.ensures) (can_hang R S place n i (rows_of t) f one l (tree_of t) i less nz b) (f.short i less nz b) in
+          let e : x.hang.new.self.rows ≡ hang t.rows i (S i).parent (S i).edge =
+          changed_hangs t i (S i).parent (S i).edge x.hang.result x.hang.new.self (subst C c.mark-mark.ensures x.hang.ensures) (can_hang R S place n i t.rows f one l (tree_of t) i less nz b) (f.short i less nz b) in
           rw (x.broken-is, x.tree-is) (
-            subst P (sym e) (laying_hang R S place n i (rows_of t) f one l less b),
+            subst P (sym e) (laying_hang R S place n i t.rows f one l less b),
             c.loop-v.invariant.1 ∙ sym (breakpoints_same S i b),
             omega (arith, c.loop-v.invariant.2),
             c.loop-v.invariant.3,

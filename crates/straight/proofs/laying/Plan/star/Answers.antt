@@ -1,7 +1,6 @@
 use Rattle.std.proofs.Common.{◌≡◌, ◌+◌, List, sym, subst, arith}
 use Rattle.tree_laws.specs.declared.Row.{Row}
 use Rattle.tree_laws.specs.Trees.{add}
-use Rattle.tree.specs.Tables.{rows_of}
 use Rattle.walk.specs.Marks.{marks, rules_of}
 use Rattle.walk.specs.Tables.{rows_of as walkRows}
 use Rattle.straight.specs.Built.{spot_at}
@@ -18,6 +17,6 @@ loop-v-preserved c =
     let z = c.spot_of-in-loop-v.result in
     let d = c.direct.result in
     let P : List Row → Type 0 = λ xs. Laying (rules_of 0 0 0 w) (marks w) place (i + 1) 1 xs in
-    let e : rows_of c.add.new.self ≡ add (rows_of t) 0 z d =
+    let e : c.add.new.self.rows ≡ add t.rows 0 z d =
     added_rows t 0 z d c.add.result c.add.new.self c.add.ensures (omega (arith, c.loop-v.invariant.count, c.loop-v.auto.v)) c.direct.ensures.short (omega (arith, c.loop-v.invariant.count, c.args.self.now.few)) in
-    subst P (sym e) (laying_add (rules_of 0 0 0 w) (marks w) place i (rows_of t) z d (omega (arith, c.loop-v.auto.v)) c.spot_of-in-loop-v.ensures c.direct.ensures.value c.loop-v.invariant)
+    subst P (sym e) (laying_add (rules_of 0 0 0 w) (marks w) place i t.rows z d (omega (arith, c.loop-v.auto.v)) c.spot_of-in-loop-v.ensures c.direct.ensures.value c.loop-v.invariant)

@@ -3,14 +3,13 @@ use Rattle.std.specs.Option.{unwrap_or}
 use Rattle.std.proofs.lemmas.Bool.{lt-ltb}
 use Rattle.space.specs.Laws.{answered}
 use Rattle.tree_laws.specs.Trees.{path_length}
-use Rattle.tree.specs.Tables.{rows_of}
 use Rattle.tree.proofs.Tabled.{made_by}
 use Rattle.tree.proofs.table.Table.paths.Goals as goal
 
 pub returns : goal.returns
 returns c =
     let t = c.args.self.now in
-    let rows = rows_of t in
+    let rows = t.rows in
     let a = c.from_fn.ensures.items in
     let path : ℕ → ℕ = λ k. unwrap_or (answered (nat_lt k (length rows)) (path_length rows k)) 0 in
     record {

@@ -2,14 +2,13 @@ use Rattle.std.proofs.Common.{◌+◌, ◌-◌, ◌<◌, length, sym, ap, ◌∙
 use Rattle.tree_laws.specs.declared.Row.{Row}
 use Rattle.tree_laws.specs.Trees.{under_in}
 use Rattle.tree_laws.proofs.Steps.{under_turn}
-use Rattle.tree.specs.Tables.{rows_of}
 use Rattle.tree.proofs.table.Table.under.Goals as goal
 
 pub loop-preserved : goal.loop-preserved
 loop-preserved c =
     let t = c.args.self.now in
-    let n = length (rows_of t) in
+    let n = length t.rows in
     let i = c.loop.counter in
     let at = c.loop.at in
-    let h : i < n = omega (arith, t.rows.ok.0) in
-    ap (λ (r : Row). under_in (rows_of t) (n - (i + 1)) r.parent c.args.v) c.at-at.ensures.row ∙ sym (under_turn (rows_of t) n i at c.args.v h c.if-at-v.false) ∙ c.loop.invariant
+    let h : i < n = omega arith in
+    ap (λ (r : Row). under_in t.rows (n - (i + 1)) r.parent c.args.v) c.at-at.ensures.row ∙ sym (under_turn t.rows n i at c.args.v h c.if-at-v.false) ∙ c.loop.invariant

@@ -3,7 +3,6 @@ use Rattle.net_laws.specs.Worsts.{worst_before}
 use Rattle.net_laws.specs.declared.reading.Worst.{Worst}
 use Rattle.order.specs.Bests.{BestOf}
 use Rattle.span.specs.Lengths.{length_of}
-use Rattle.tree.specs.Tables.{rows_of}
 use Rattle.net.specs.declared.board.Board.{Board}
 use Rattle.net.specs.Nets.{seen}
 use Rattle.net.specs.Sinks.{Sink}
@@ -14,7 +13,7 @@ pub unwrap-requires : goal.unwrap-requires
 unwrap-requires g c =
     let b = c.args.self.now.board.now in
     let d = length_of g.S.Space c.args.space.now in
-    let rows = rows_of c.args.self.now.table.now in
+    let rows = c.args.self.now.table.now.rows in
     let pins = c.pins.ensures ∙ ap (λ (x : Board). x.pins) c.board.ensures in
     let (_, found, first) = c.first_found.ensures in
     some_sink d (seen b) rows (b.two c.args.self.now.table.now c.args.self.now.stands) c.first_found.result
@@ -24,7 +23,7 @@ pub returns : goal.returns
 returns g c =
     let b = c.args.self.now.board.now in
     let d = length_of g.S.Space c.args.space.now in
-    let rows = rows_of c.args.self.now.table.now in
+    let rows = c.args.self.now.table.now.rows in
     let pins = c.pins.ensures ∙ ap (λ (x : Board). x.pins) c.board.ensures in
     let (_, found, first) = c.first_found.ensures in
     let Best : Option Worst → Type 0 = λ o. BestOf worst_before (Sink d (seen b) rows) o in

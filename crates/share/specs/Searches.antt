@@ -1,0 +1,16 @@
+-- The search for the best share move. Assumes nothing.
+use Rattle.std.specs.Prelude.{◌≡◌, ℕ}
+use Rattle.space.specs.declared.Space.{Ghosts}
+use Rattle.space.specs.declared.Joining.{Ghosts as JoinGhosts}
+use Rattle.tree_laws.specs.declared.share.Share.{Share}
+use Rattle.tree_laws.specs.Distances.{join_of, reach_of}
+use Rattle.tree_laws.specs.Shares.{ShareMove}
+use Rattle.share.specs.declared.sharing.ShareSearch.{ShareSearch}
+
+-- A move of the table that is searched.
+abbrev pub MoveIn : {X : Type 0} → Ghosts X → JoinGhosts X → ShareSearch X → Share → Type 0
+MoveIn G J q = ShareMove q.table.now.rows (reach_of G q.space.now) (join_of G J q.space.now)
+
+-- A move of a and b.
+abbrev pub MoveAt : {X : Type 0} → Ghosts X → JoinGhosts X → ShareSearch X → (a b : ℕ) → Share → Type 0
+MoveAt G J q a b m = MoveIn G J q m × (m.a ≡ a) × (m.b ≡ b)
