@@ -8,10 +8,11 @@ use Rattle.seed.specs.declared.store.Refusal.TheVariants as refusal
 use Rattle.seed.specs.declared.store.Seed.{Seed}
 use Rattle.span.specs.Grown.{Grown}
 use Rattle.space.specs.contracts.plane.PlaneSpace.TheImpl as planeSpace
-use Rattle.span.specs.Lengths.{Pinned, distance_of, spot_of}
-use Rattle.span.specs.Spanning.{Spanning, Steps}
-use Rattle.span.proofs.Checks.{every, every_at, first_by, pair_by}
-use Rattle.span.proofs.Steps.{spanning_only}
+use Rattle.space.specs.Spots.{spot_of}
+use Rattle.span.specs.Lengths.{Pinned, distance_of}
+use Rattle.span_laws.specs.Spanning.{Spanning, Steps}
+use Rattle.span_laws.proofs.Checks.{every, every_at, first_by, pair_by}
+use Rattle.span_laws.proofs.Steps.{spanning_only}
 use Rattle.cases.specs.Table.{PlaneSpans, plane, square, square_seed}
 
 abbrev far : ℕ → ℕ → ℕ

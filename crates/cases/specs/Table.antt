@@ -1,11 +1,11 @@
 -- The worked cases, as one table. Each row says what a call of the engine answers; the answers are read from the
 -- meaning of the spaces as they are implemented, which is what their calls are proved to answer. Assumes nothing.
 use Rattle.std.specs.Prelude.{◌≡◌, ℕ, zero, suc, ◌-◌, ◌<◌, Bool, true, false, ◌&&◌, List, [], ◌∷◌, ◌++◌, length, ℤ, pos, negsuc, Some, Ok, Option, Result, nat_le, slice_index_or}
-use Rattle.forest.specs.Edges.{Sound}
+use Rattle.forest.specs.Edges.{Sound, edge}
 use Rattle.forest.specs.Growth.{Grows}
 use Rattle.forest.specs.Rooted.{Forest}
 use Rattle.forest.specs.declared.Edge.{Edge}
-use Rattle.seed.specs.Seeds.{edge, edges_of}
+use Rattle.seed.specs.Seeds.{edges_of}
 use Rattle.seed.specs.declared.store.Refusal.{Refusal}
 use Rattle.seed.specs.declared.store.Seed.{Seed}
 use Rattle.space.specs.Laws.{answered, limit}
@@ -21,7 +21,7 @@ use Rattle.space.specs.contracts.plane.PlaneJoining.TheImpl as planeJoining
 use Rattle.space.specs.contracts.plane.PlaneSpace.TheImpl as planeSpace
 use Rattle.span.specs.Grown.{Grown}
 use Rattle.span.specs.Lengths.{Pinned, distance_of}
-use Rattle.span.specs.Spanning.{Spanning}
+use Rattle.span_laws.specs.Spanning.{Spanning}
 use Rattle.walk.specs.Walked.{Walked}
 use Rattle.walk_laws.specs.Walk.{Mark, Rules, Table as Marks, blank, home, hung, start, walk}
 

@@ -3,6 +3,10 @@ use Rattle.std.specs.Prelude.{◌≡◌, ℕ, ◌+◌, ◌<◌, ◌≤◌, ◌�
 use Rattle.order.specs.Firsts.{Among}
 use Rattle.forest.specs.declared.Edge.{Edge}
 
+-- The edge between a and b of the length l.
+abbrev pub edge : (a b l : ℕ) → Edge
+edge a b l = record { a = a; b = b; length = l }
+
 -- The edge lies between u and v, whichever of them it names first.
 abbrev pub Between : Edge → ℕ → ℕ → Type 0
 Between e u v = ((e.a ≡ u) × (e.b ≡ v)) ⊎ ((e.a ≡ v) × (e.b ≡ u))

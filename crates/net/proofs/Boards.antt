@@ -13,9 +13,10 @@ use Rattle.seed.specs.declared.store.Seed.{Seed}
 use Rattle.space.specs.declared.Space.{Ghosts}
 use Rattle.space.specs.declared.spot.Spot.{Spot}
 use Rattle.span.specs.Grown.{Grown, Spanned}
-use Rattle.span.specs.Lengths.{length_of, lengths, spot_of}
-use Rattle.span.specs.Spanning.{Spanning}
-use Rattle.span.proofs.Steps.{spanning_agrees}
+use Rattle.space.specs.Spots.{spot_of}
+use Rattle.span.specs.Lengths.{length_of, lengths}
+use Rattle.span_laws.specs.Spanning.{Spanning}
+use Rattle.span_laws.proofs.Steps.{spanning_agrees}
 use Rattle.tree.specs.Hooks.{reach_of}
 use Rattle.tree.specs.Tables.{rows_of}
 use Rattle.tree.specs.declared.table.Table.{Table}

@@ -9,8 +9,8 @@ use Rattle.order.specs.Orders.{Order}
 use Rattle.share.specs.Shares.{shared_by}
 use Rattle.share.specs.Moves.{share_order}
 use Rattle.space.specs.declared.spot.Spot.{Spot}
-use Rattle.span.proofs.Steps.{spanning_only}
-use Rattle.span.specs.Lengths.{spot_of as spot_at}
+use Rattle.span_laws.proofs.Steps.{spanning_only}
+use Rattle.space.specs.Spots.{spot_of as spot_at}
 use Rattle.order.specs.Bests.{BestOf}
 use Rattle.tree.specs.Moves.{hook_order}
 use Rattle.tree_laws.specs.Trees.{hang, spot_of}

@@ -9,8 +9,8 @@ use Rattle.share.proofs.Measures as sharing
 use Rattle.share.specs.declared.share.Share.{Share}
 use Rattle.space.specs.Laws.{limit}
 use Rattle.space.specs.declared.spot.Spot.{Spot}
-use Rattle.span.specs.Lengths.{origin, spot_of as spot_at}
-use Rattle.span.proofs.Steps.{spanning_agrees}
+use Rattle.space.specs.Spots.{origin, spot_of as spot_at}
+use Rattle.span_laws.proofs.Steps.{spanning_agrees}
 use Rattle.tree.specs.Hooks.{Measured}
 use Rattle.tree.proofs.Measured.{measured, move_cut, move_own, settled, uncut}
 use Rattle.tree_laws.specs.Trees.{hang}

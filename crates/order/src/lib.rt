@@ -2,8 +2,6 @@
 
 #![tactic(auto)]
 
-mod link;
 mod search;
 
-pub use link::Link;
 pub use search::{Rank, first, first_found, first_of_pairs, first_until};

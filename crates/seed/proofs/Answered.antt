@@ -1,10 +1,10 @@
 -- What a caller learns from a seed's answers.
 use Rattle.std.proofs.Common.{◌≡◌, ℕ, ◌<◌, ◌≤◌, true, false, [], ◌∷◌, ◌++◌, is_ok, Ok, Err, Result, refl, arith}
-use Rattle.forest.specs.Edges.{Joined}
+use Rattle.forest.specs.Edges.{Joined, edge}
 use Rattle.seed.specs.declared.store.Seed.{Seed}
 use Rattle.seed.specs.declared.store.Refusal.{Refusal}
 use Rattle.seed.specs.declared.store.Refusal.TheVariants as refusal
-use Rattle.seed.specs.Seeds.{Inside, Asked, Restarted, edge, edges_of, nodes_of}
+use Rattle.seed.specs.Seeds.{Inside, Asked, Restarted, edges_of, nodes_of}
 
 -- an edge between nodes that are not joined is taken
 pub join_taken : (s t : Seed) (a b l : ℕ) (r : Result (Unit {0}) Refusal) → Asked s a b l r t → Inside s a b → (Joined (edges_of s) a b → ⊥) → 0 < l → l ≤ 100000000 →

@@ -1,7 +1,7 @@
 -- What a seed holds, and the answer to each request to join two of its nodes. Assumes nothing.
 use Rattle.std.specs.Prelude.{◌≡◌, ℕ, ◌+◌, ◌<◌, ◌≤◌, List, [], ◌∷◌, ◌++◌, length, Some, None, Ok, Err, vec_items, Option, Result}
 use Rattle.forest.specs.declared.Edge.{Edge}
-use Rattle.forest.specs.Edges.{Joined}
+use Rattle.forest.specs.Edges.{Joined, edge}
 use Rattle.seed.specs.declared.store.Seed.{Seed}
 use Rattle.seed.specs.declared.store.Refusal.{Refusal}
 use Rattle.seed.specs.declared.store.Refusal.TheVariants as refusal
@@ -13,9 +13,6 @@ edges_of s = vec_items s.edges
 -- How many nodes there are, each with its label; they are numbered from 0.
 abbrev pub nodes_of : Seed → ℕ
 nodes_of s = length (vec_items s.labels.of)
-
-abbrev pub edge : (a b l : ℕ) → Edge
-edge a b l = record { a = a; b = b; length = l }
 
 -- Both numbers are nodes.
 abbrev pub Inside : Seed → (a b : ℕ) → Type 0

@@ -3,14 +3,14 @@ use Rattle.std.proofs.Common.{◌≡◌, ℕ, ◌+◌, ◌<◌, ◌≤◌, min, 
 use Rattle.std.proofs.lemmas.List.{length_push}
 use Rattle.std.proofs.lemmas.Bool.{and_from}
 use Rattle.order.specs.Firsts.{First}
-use Rattle.order.specs.Links.{link_before}
-use Rattle.order.specs.declared.link.Link.{Link}
-use Rattle.forest.specs.Edges.{wire}
+use Rattle.span_laws.specs.Links.{link_before}
+use Rattle.span_laws.specs.declared.link.Link.{Link}
+use Rattle.forest.specs.Edges.{wire, edge}
 use Rattle.forest.specs.declared.Edge.{Edge}
 use Rattle.forest.proofs.Accepted.{Accepted, accepted}
 use Rattle.forest.proofs.Chains.{joined_on}
 use Rattle.forest.proofs.Trails.{tree}
-use Rattle.seed.specs.Seeds.{Asked, Inside, edge, edges_of, nodes_of}
+use Rattle.seed.specs.Seeds.{Asked, Inside, edges_of, nodes_of}
 use Rattle.seed.specs.declared.store.Refusal.{Refusal}
 use Rattle.seed.specs.declared.store.Seed.{Seed}
 use Rattle.seed.proofs.Answered.{join_taken}
@@ -18,9 +18,12 @@ use Rattle.space.specs.Laws.{Metric, answered}
 use Rattle.space.specs.declared.Space.{Ghosts}
 use Rattle.space.specs.declared.spot.Spot.{Spot}
 use Rattle.span.specs.Grown.{Growing, Spanned}
-use Rattle.span.specs.Lengths.{Pinned, distance_of, lengths, spot_of}
-use Rattle.span.specs.Spanning.{Alone, FirstPair, Firsts, Steps, elsewhere, fan, offered}
-use Rattle.span.proofs.Steps.{alone_more, alone_none, first_pair, firsts_more, firsts_none, firsts_start, spanning, spanning_agrees, spanning_only, steps_more, steps_none}
+use Rattle.space.specs.Spots.{spot_of}
+use Rattle.span.specs.Lengths.{Pinned, distance_of, lengths}
+use Rattle.span_laws.specs.Spanning.{FirstPair, Steps}
+use Rattle.span.specs.Growth.{Alone, Firsts, elsewhere, fan, offered}
+use Rattle.span.proofs.Firsts.{alone_more, alone_none, first_pair, firsts_more, firsts_none, firsts_start}
+use Rattle.span_laws.proofs.Steps.{spanning, spanning_agrees, spanning_only, steps_more, steps_none}
 
 -- the edges of a seed are accepted, over as many nodes as it has
 seed_accepted : (n : ℕ) (t : Seed) → nodes_of t ≡ n → Accepted n (edges_of t)

@@ -1,6 +1,6 @@
 -- The answer to the request for a spanning seed, and what holds while it grows. Assumes nothing.
 use Rattle.std.specs.Prelude.{◌≡◌, ℕ, ◌<◌, ◌≤◌, ◌⊎◌, List, length, Ok, Err, Result}
-use Rattle.order.specs.declared.link.Link.{Link}
+use Rattle.span_laws.specs.declared.link.Link.{Link}
 use Rattle.forest.specs.Edges.{wire}
 use Rattle.forest.specs.Paths.{Tree}
 use Rattle.forest.specs.declared.Edge.{Edge}
@@ -11,7 +11,8 @@ use Rattle.seed.specs.declared.store.Seed.{Seed}
 use Rattle.space.specs.declared.Space.{Ghosts}
 use Rattle.space.specs.declared.spot.Spot.{Spot}
 use Rattle.span.specs.Lengths.{Pinned, distance_of, lengths}
-use Rattle.span.specs.Spanning.{Alone, Firsts, Spanning, Steps}
+use Rattle.span_laws.specs.Spanning.{Spanning, Steps}
+use Rattle.span.specs.Growth.{Alone, Firsts}
 
 -- The seed t is the spanning seed of the pins, and w its wire. The lengths are the space's distances wherever the pins are such as
 -- a net can have.

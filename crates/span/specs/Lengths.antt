@@ -2,16 +2,9 @@
 use Rattle.std.specs.Prelude.{◌≡◌, ℕ, ◌<◌, ◌≤◌, min, max, true, ◌&&◌, List, length, ◌≢◌}
 use Rattle.std.specs.Option.{unwrap_or}
 use Rattle.space.specs.Laws.{answered}
-use Rattle.space.specs.Spots as spots
+use Rattle.space.specs.Spots.{spot_of}
 use Rattle.space.specs.declared.Space.{Ghosts}
 use Rattle.space.specs.declared.spot.Spot.{Spot}
-
-abbrev pub origin : Spot
-origin = spots.origin
-
--- The spot of a pin.
-abbrev pub spot_of : List Spot → ℕ → Spot
-spot_of pins v = spots.spot_of pins v
 
 -- The distance between two pins.
 abbrev pub distance_of : {X : Type 0} → Ghosts X → X → List Spot → ℕ → ℕ → ℕ

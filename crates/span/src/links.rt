@@ -1,14 +1,15 @@
 // The first link of each pin that is still outside.
 ghost use Rattle.std.specs.Prelude.{◌≡◌, ◌-◌, ◌≤◌, map, length, vec_capacity, filter};
 ghost use Rattle.order.specs.Firsts.{FirstOf};
-ghost use Rattle.order.specs.Links.{link_before};
+ghost use Rattle.span_laws.specs.Links.{link_before};
 ghost use Rattle.span.specs.Measured.{lengths_of};
-ghost use Rattle.span.specs.Spanning.{better, elsewhere, fan, offered};
+ghost use Rattle.span.specs.Growth.{better, elsewhere, fan, offered};
 
 use crate::pins::Pins;
-use order::{Link, first};
+use order::first;
 use seed::NODES;
 use space::Space;
+use span_laws::Link;
 use std::alloc::{AllocError, Global};
 
 /// The first of two links.

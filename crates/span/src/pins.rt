@@ -2,9 +2,9 @@
 ghost use Rattle.std.specs.Prelude.{◌≡◌, ◌≤◌, length};
 ghost use Rattle.span.specs.Lengths.{length_of};
 
-use order::Link;
 use seed::LONGEST;
 use space::{Space, Spot, spot_of};
+use span_laws::Link;
 
 /// The distance of two spots as the length of an edge, from 1 to `LONGEST`; 1 where there is no distance.
 pub fn length_between<S: Space>(space: &S, a: Spot, b: Spot) -> u64
@@ -23,7 +23,7 @@ pub(crate) struct Pins<'a, S: Space> {
 
 impl<'a, S: Space> Pins<'a, S> {
     ghost use Rattle.span.specs.Measured.{lengths_of};
-    ghost use Rattle.span.specs.Spanning.{link as linkBetween};
+    ghost use Rattle.span_laws.specs.Spanning.{link as linkBetween};
 
     /// The link of two pins.
     pub(crate) fn link(&self, u: usize, v: usize) -> Link

@@ -1,6 +1,6 @@
 ghost use Rattle.std.specs.Prelude.{◌≡◌, [], ◌∷◌, ◌++◌};
-ghost use Rattle.forest.specs.Edges.{Fit};
-ghost use Rattle.seed.specs.Seeds.{Asked, edge, edges_of, nodes_of};
+ghost use Rattle.forest.specs.Edges.{Fit, edge};
+ghost use Rattle.seed.specs.Seeds.{Asked, edges_of, nodes_of};
 
 use super::{LONGEST, Refusal, Seed};
 use forest::Edge;

@@ -1,11 +1,11 @@
 use Rattle.std.proofs.Common.{◌≡◌, ◌<◌, ◌≤◌, List, [], ◌∷◌, ◌++◌, length, sym, refl, subst, arith}
 use Rattle.std.proofs.lemmas.List.{length_push}
 use Rattle.forest.specs.declared.Edge.{Edge}
-use Rattle.forest.specs.Edges.{Sound}
+use Rattle.forest.specs.Edges.{Sound, edge}
 use Rattle.forest.proofs.Accepted.{accepted, sound_push}
 use Rattle.forest.proofs.Heads.{room}
 use Rattle.seed.specs.Labelled.{Labelled}
-use Rattle.seed.specs.Seeds.{edge, edges_of, nodes_of}
+use Rattle.seed.specs.Seeds.{edges_of, nodes_of}
 use Rattle.seed.proofs.store.Seed.accept.Goals as goal
 
 pub push_reserved-requires : goal.push_reserved-requires

@@ -1,6 +1,6 @@
 use Rattle.std.proofs.Common.{◌≡◌, ◌+◌, ◌-◌, ◌<◌, List, length, sym, ap, ◌∙◌, subst, arith}
 use Rattle.std.proofs.lemmas.Bool.{eqb-false}
-use Rattle.order.specs.declared.link.Link.{Link}
+use Rattle.span_laws.specs.declared.link.Link.{Link}
 use Rattle.seed.specs.Seeds.{edges_of}
 use Rattle.span.specs.Grown.{Growing}
 use Rattle.span.specs.Lengths.{lengths}

@@ -1,6 +1,6 @@
 use Rattle.std.proofs.Common.{◌≡◌, map, filter, ap, ◌∙◌}
 use Rattle.span.specs.Measured.{lengths_of}
-use Rattle.span.specs.Spanning.{elsewhere, offered}
+use Rattle.span.specs.Growth.{elsewhere, offered}
 use Rattle.span.proofs.Grows.{lengths_fair, step_grows, step_none}
 use Rattle.span.proofs.growing.Spanner.step.Goals as goal
 

@@ -1,7 +1,7 @@
-ghost use Rattle.order.specs.Links.{link_before};
-ghost use Rattle.order.specs.Lexical.{link_order};
+ghost use Rattle.span_laws.specs.Links.{link_before};
+ghost use Rattle.span_laws.specs.LinkOrder.{link_order};
 
-use crate::search::Rank;
+use order::Rank;
 
 /// A candidate edge between two nodes: the shorter first, then the lower u, then the lower v.
 #[derive(Clone, Copy, Debug, PartialEq, Eq)]

@@ -1,11 +1,11 @@
 -- The spanning seed: from pin 0, each step adds the first of all pairs of a pin inside and a pin outside. Assumes nothing.
-use Rattle.std.specs.Prelude.{◌≡◌, ℕ, zero, suc, ◌+◌, ◌<◌, Bool, false, cond, not, List, [], ◌∷◌, ◌++◌, length, take, ◌==◌, slice_index_or}
-use Rattle.order.specs.Firsts.{Among}
-use Rattle.order.specs.Links.{link_before}
-use Rattle.order.specs.declared.link.Link.{Link}
+use Rattle.std.specs.Prelude.{◌≡◌, ℕ, ◌+◌, ◌<◌, false, List, length, take, slice_index_or}
+use Rattle.span_laws.specs.Links.{link_before}
+use Rattle.span_laws.specs.declared.link.Link.{Link}
 use Rattle.forest.specs.Edges.{Joined}
 use Rattle.forest.specs.declared.Edge.{Edge}
 
+-- The link of two pins, by the distance d.
 abbrev pub link : (ℕ → ℕ → ℕ) → (u v : ℕ) → Link
 link d u v = record { length = d u v; u = u; v = v }
 
@@ -34,32 +34,3 @@ Steps n d E = (i : ℕ) (x : Edge) → i < length E → FirstPair n d (take i E)
 pub record Spanning (n : ℕ) (d : ℕ → ℕ → ℕ) (E : List Edge) : Type 0 where
   pub steps : Steps n d E
   pub whole : length E + 1 ≡ n
-
--- ---- what the growing keeps
-
--- A link of another outer pin than v.
-abbrev pub elsewhere : ℕ → Link → Bool
-elsewhere v x = not (x.v == v)
-
--- The first of two links.
-abbrev pub better : Link → Link → Link
-better old new = cond (link_before new old) new old
-
--- The outer pin's first link, where u is one more pin inside.
-abbrev pub offered : (ℕ → ℕ → ℕ) → ℕ → Link → Link
-offered d u x = better x (link d u x.v)
-
--- The links from pin 0 to the pins 1 to k.
-abbrev pub fan : (ℕ → ℕ → ℕ) → (k : ℕ) → List Link
-fan d zero = []
-fan d (suc k) = fan d k ++ link d 0 (suc k) ∷ []
-
--- A pin outside is joined with itself only.
-abbrev pub Alone : List Edge → Type 0
-Alone E = (v x : ℕ) → (Joined E 0 v → ⊥) → Joined E v x → x ≡ v
-
--- The first link of each outer pin stands in F.
-pub record Firsts (n : ℕ) (d : ℕ → ℕ → ℕ) (E : List Edge) (F : List Link) : Type 0 where
-  pub pairs : (x : Link) → Among x F → Pair n d E x
-  pub firsts : (x : Link) → Among x F → (u : ℕ) → u < n → Joined E 0 u → link_before (link d u x.v) x ≡ false
-  pub all : (v : ℕ) → v < n → (Joined E 0 v → ⊥) → (x : Link) × Among x F × (x.v ≡ v)

@@ -1,12 +1,12 @@
 -- The first of all pairs by a test that computes, for spanning seeds that are written out. Assumes nothing.
 use Rattle.std.proofs.Common.{◌≡◌, ℕ, zero, suc, ◌<◌, Bool, true, false, not, ◌&&◌, ◌||◌, eqb, List, sym, ap, ◌∙◌, subst, ⊎_elim, arith}
 use Rattle.std.proofs.lemmas.Bool.{and_parts, cases_eq, eq-eqb, eqb-true, not-true, or_cases, both_ways}
-use Rattle.order.specs.Links.{link_before}
-use Rattle.order.specs.declared.link.Link.{Link}
+use Rattle.span_laws.specs.Links.{link_before}
+use Rattle.span_laws.specs.declared.link.Link.{Link}
 use Rattle.forest.specs.Labels.{label_of}
 use Rattle.forest.specs.declared.Edge.{Edge}
 use Rattle.forest.proofs.Labelled.{joined_label, label_joined}
-use Rattle.span.specs.Spanning.{FirstPair, Pair, link}
+use Rattle.span_laws.specs.Spanning.{FirstPair, Pair, link}
 
 -- the test holds of every number below n
 abbrev pub every : ℕ → (ℕ → Bool) → Bool
