@@ -5,8 +5,7 @@ use Rattle.forest.specs.Edges.{Sound, edge}
 use Rattle.forest.specs.Growth.{Grows}
 use Rattle.forest.specs.Rooted.{Forest}
 use Rattle.forest.specs.declared.Edge.{Edge}
-use Rattle.seed.specs.Seeds.{edges_of}
-use Rattle.seed.specs.declared.store.Refusal.{Refusal}
+use Rattle.seed.specs.declared.store.SeedFault.{SeedFault}
 use Rattle.seed.specs.declared.store.Seed.{Seed}
 use Rattle.space.specs.Laws.{answered, limit}
 use Rattle.space.specs.declared.Space.{Ghosts}
@@ -69,7 +68,7 @@ pub data Fact : Type 0 where
 pub record PlaneSpans (pins : List Spot) (edges : List Edge) (w : ℕ) : Type 0 where
   pub pinned : Pinned planeSpace.ghosts plane pins
   pub spans : Spanning (length pins) (distance_of planeSpace.ghosts plane pins) edges
-  pub call : (t₀ t : Seed) (r : Result ℕ Refusal) → Grown planeSpace.ghosts plane pins t₀ r t → (r ≡ Ok w) × (edges_of t ≡ edges)
+  pub call : (t₀ t : Seed) (r : Result ℕ SeedFault) → Grown planeSpace.ghosts plane pins t₀ r t → (r ≡ Ok w) × (t.edges ≡ edges)
 
 -- The edges 0-1, 1-2, .. up to the node k, with d as the length of an edge.
 abbrev pub chain : (ℕ → ℕ → ℕ) → (k : ℕ) → List Edge

@@ -1,5 +1,6 @@
 // The pins of a net in a space, and how far apart they are.
 ghost use Rattle.std.specs.Prelude.{◌≡◌, ◌≤◌, length};
+ghost use Rattle.seed.specs.declared.store.TheConstants.{NODES};
 ghost use Rattle.span.specs.Lengths.{length_of};
 
 use seed::LONGEST;
@@ -18,7 +19,7 @@ pub fn length_between<S: Space>(space: &S, a: Spot, b: Spot) -> u64
 pub(crate) struct Pins<'a, S: Space> {
     pub space: &'a S,
     pub spots: &'a [Spot],
-    ghost few: { length spots.now ≤ 512 },
+    ghost few: { length spots.now ≤ NODES },
 }
 
 impl<'a, S: Space> Pins<'a, S> {

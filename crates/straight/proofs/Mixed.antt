@@ -2,6 +2,7 @@
 use Rattle.std.proofs.Common.{◌≡◌, ℕ, zero, suc, ◌+◌, ◌<◌, ◌≤◌, true, false, cond, ◌||◌, eqb, ◌⊎◌, List, [], ◌∷◌, ◌++◌, length, Some, None, Option, sym, refl, ap, ◌∙◌, subst, inl, inr, ⊎_elim, add-one, arith}
 use Rattle.std.proofs.lemmas.List.{ext_get_or, get_or-set_other, get_or-set_same}
 use Rattle.std.proofs.lemmas.Bool.{cases_Bool, cases_lt, cond-false, cond-true, ne_eqb, or_from, or_right}
+use Rattle.space.specs.declared.TheConstants.{LONGEST}
 use Rattle.order.specs.Firsts.{Among}
 use Rattle.order.proofs.Finding.{among_either, among_none, among_one}
 use Rattle.space.specs.declared.spot.Spot.{Spot}
@@ -43,7 +44,7 @@ module _ (R : Rules) (S : Table) (place : ℕ → Spot) (v : ℕ) (nz : v ≡ 0 
 -- ---- all rows on the driver
 
 -- a row that there is room for is added
-pub added_rows : (s : Tree-table) (u : ℕ) (z : Spot) (l : ℕ) (r : Option ℕ) (t : Tree-table) → Added s u z l r t → u < length (rows_of s) → l ≤ 100000000 → length (rows_of s) < 768 → rows_of t ≡ add (rows_of s) u z l
+pub added_rows : (s : Tree-table) (u : ℕ) (z : Spot) (l : ℕ) (r : Option ℕ) (t : Tree-table) → Added s u z l r t → u < length (rows_of s) → l ≤ LONGEST → length (rows_of s) < 768 → rows_of t ≡ add (rows_of s) u z l
 added_rows s u z l None t a h k m = absurd (a.0 (record { parent = h; short = k; room = m }))
 added_rows s u z l (Some i) t a h k m = a.2
 

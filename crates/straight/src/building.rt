@@ -1,4 +1,5 @@
 ghost use Rattle.std.specs.Prelude.{◌≡◌, ◌≤◌, [], IfOk, vec_capacity};
+ghost use Rattle.seed.specs.declared.store.TheConstants.{NODES};
 ghost use Rattle.straight.specs.Built.{Answer};
 
 use crate::laying::{Plan, measure};
@@ -12,7 +13,7 @@ use walk::Allowance;
 pub struct Builder {
     walk: walk::Table,
     broken: Vec<usize>,
-    ghost room: { 512 ≤ vec_capacity broken },
+    ghost room: { NODES ≤ vec_capacity broken },
 }
 
 impl Builder {

@@ -1,5 +1,7 @@
 // The direct distances of the nodes, and the rows of the straight tree.
 ghost use Rattle.std.specs.Prelude.{◌≡◌, ◌≤◌, map, length, vec_capacity, slice_index_or};
+ghost use Rattle.space.specs.declared.TheConstants.{LONGEST};
+ghost use Rattle.seed.specs.declared.store.TheConstants.{NODES};
 ghost use Rattle.tree.specs.Hooks.{reach_of};
 ghost use Rattle.tree.specs.Tables.{rows_of};
 ghost use Rattle.walk.specs.Marks.{directs, idle, marks, rules_of};
@@ -13,7 +15,7 @@ use walk::Mark;
 
 /// Gives the walk a row for each spot, with its distance from the driver.
 pub(crate) fn measure<S: Space>(walk: &mut walk::Table, space: &S, spots: &[Spot])
-    requires { length spots.now ≤ 512 }
+    requires { length spots.now ≤ NODES }
     ensures { directs_of (walkRows walk.new) ≡ map (reach_of S.Space space.now (spot_at spots.now 0)) spots.now }
 {
     walk.clear();
@@ -28,14 +30,14 @@ pub(crate) fn measure<S: Space>(walk: &mut walk::Table, space: &S, spots: &[Spot
 pub(crate) struct Plan<'a> {
     pub(crate) walk: &'a walk::Table,
     pub(crate) spots: &'a [Spot],
-    ghost few: { length spots.now ≤ 512 },
+    ghost few: { length spots.now ≤ NODES },
 }
 
 impl<'a> Plan<'a> {
     /// The direct distance of a node; 0 where there is no such node.
     fn direct(&self, v: usize) -> u64
         ensures value { result ≡ directs (walkRows self.now.walk.now) v }
-        ensures short { result ≤ 100000000 }
+        ensures short { result ≤ LONGEST }
     {
         self.walk.direct(v).unwrap_or_default()
     }
@@ -61,7 +63,7 @@ impl<'a> Plan<'a> {
 
     /// Lays the rows of the straight tree, and lists the breakpoints.
     pub(crate) fn lay(&self, tree: &mut tree::Table, broken: &mut Vec<usize>)
-        requires room { 512 ≤ vec_capacity broken.old }
+        requires room { NODES ≤ vec_capacity broken.old }
         requires falling { Falling (length self.now.spots.now) (marks (walkRows self.now.walk.now)) }
         ensures rows { Laying (rules_of 0 0 0 (walkRows self.now.walk.now)) (marks (walkRows self.now.walk.now)) (spot_at self.now.spots.now) (length self.now.spots.now) (length self.now.spots.now) (rows_of tree.new) }
         ensures found { broken.new.items ≡ breakpoints_of (marks (walkRows self.now.walk.now)) (length self.now.spots.now) }

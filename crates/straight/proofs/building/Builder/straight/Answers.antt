@@ -1,5 +1,4 @@
 use Rattle.std.proofs.Common.{◌≡◌, ◌+◌, length, vec_items, sym, ◌∙◌, arith}
-use Rattle.seed.specs.Seeds.{edges_of, nodes_of}
 use Rattle.tree.specs.Hooks.{reach_of}
 use Rattle.tree.specs.Tables.{rows_of}
 use Rattle.walk.specs.Tables.{rows_of as walkRows}
@@ -13,8 +12,8 @@ lay-requires-clause-falling g c =
     let spots = c.args.spots.now in
     let d = reach_of g.S.Space c.args.space.now in
     let a = c.args.allowance in
-    let E = edges_of seed in
-    let n = nodes_of seed in
+    let E = seed.edges in
+    let n = seed.nodes in
     let old = walkRows c.measure.new.walk in
     let new = walkRows c.walk.new.self in
     let tree : length E + 1 ≡ n = tree_from_test (length E + 1) n c.if-not-tree.ensures.test in
@@ -28,8 +27,8 @@ returns g c =
     let s = c.args.space.now in
     let d = reach_of g.S.Space s in
     let a = c.args.allowance in
-    let E = edges_of seed in
-    let n = nodes_of seed in
+    let E = seed.edges in
+    let n = seed.nodes in
     let old = walkRows c.measure.new.walk in
     let new = walkRows c.walk.new.self in
     let found = vec_items c.lay.new.broken in

@@ -1,5 +1,5 @@
 use Rattle.seed.proofs.Groups.{label_read, labels_decide}
-use Rattle.seed.proofs.store.labels.Labels.joined.Goals as goal
+use Rattle.seed.proofs.labels.Labels.joined.Goals as goal
 
 pub returns : goal.returns
 returns c E labelled =

@@ -1,6 +1,6 @@
 use Rattle.std.proofs.Common.{◌≡◌, [], length}
 use Rattle.seed.specs.Labelled.{Labelled}
-use Rattle.seed.proofs.store.labels.Labels.restart.Given as goal
+use Rattle.seed.proofs.labels.Labels.restart.Given as goal
 
 -- the nodes added so far, each with its own number
 abbrev pub invariant-loop : goal.invariant-loop

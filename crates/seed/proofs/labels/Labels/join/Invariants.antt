@@ -1,5 +1,5 @@
 use Rattle.std.proofs.Common.{◌≡◌, ℕ, ◌<◌, ◌≤◌, cond, eqb, get_or}
-use Rattle.seed.proofs.store.labels.Labels.join.Given as goal
+use Rattle.seed.proofs.labels.Labels.join.Given as goal
 
 -- the nodes passed have their new labels, and the others their old ones
 abbrev pub invariant-loop-label : goal.invariant-loop-label

@@ -1,9 +1,10 @@
-ghost use Rattle.std.specs.Prelude.{◌≡◌, ℕ, ◌<◌, ◌≤◌, List, [], ◌∷◌, ◌++◌, length, vec_capacity, Decides, IfOk};
+ghost use Rattle.std.specs.Prelude.{◌≡◌, ℕ, ◌<◌, ◌≤◌, List, [], ◌∷◌, ◌++◌, length, vec_capacity, ◌↔◌, IfOk, IsTrue};
 ghost use Rattle.forest.specs.declared.Edge.{Edge};
 ghost use Rattle.forest.specs.Edges.{Joined};
 ghost use Rattle.seed.specs.Labelled.{Labelled};
+ghost use Rattle.seed.specs.declared.store.TheConstants.{NODES};
 
-use super::NODES;
+use crate::store::NODES;
 use std::alloc::{AllocError, Global};
 
 /// A label for each node, and room for `NODES`. Between the edges that were joined, two nodes have equal labels exactly where a chain
@@ -11,7 +12,7 @@ use std::alloc::{AllocError, Global};
 #[derive(Drop)]
 pub(crate) struct Labels {
     of: Vec<usize>,
-    ghost room: { 512 ≤ vec_capacity of },
+    ghost room: { NODES ≤ vec_capacity of },
 }
 
 impl Labels {
@@ -32,7 +33,7 @@ impl Labels {
 
     /// Adds a node with its own number as its label.
     pub(crate) fn add(&mut self)
-        requires { length self.old.of.items < 512 }
+        requires { length self.old.of.items < NODES }
         ensures { self.new.of.items ≡ self.old.of.items ++ length self.old.of.items ∷ [] }
     {
         let node = self.of.len();
@@ -41,7 +42,7 @@ impl Labels {
 
     /// Starts again with `n` nodes, each with its own number as its label.
     pub(crate) fn restart(&mut self, n: usize)
-        requires { n ≤ 512 }
+        requires { n ≤ NODES }
         ensures count { length self.new.of.items ≡ n }
         ensures labels { Labelled [] self.new.of.items }
     {
@@ -71,7 +72,7 @@ impl Labels {
     pub(crate) fn joined(&self, a: usize, b: usize) -> bool
         requires a { a < length self.now.of.items }
         requires b { b < length self.now.of.items }
-        ensures { (E : List Edge) → Labelled E self.now.of.items → Decides result (Joined E a b) }
+        ensures { (E : List Edge) → Labelled E self.now.of.items → (IsTrue result ↔ Joined E a b) }
     {
         self.of[a] == self.of[b]
     }

@@ -1,7 +1,7 @@
 use Rattle.std.proofs.Common.{◌<◌, length, get_or, arith}
 use Rattle.std.proofs.lemmas.Grind.{common_steps}
 use Rattle.seed.proofs.Groups.{label_after, label_read}
-use Rattle.seed.proofs.store.labels.Labels.join.Goals as goal
+use Rattle.seed.proofs.labels.Labels.join.Goals as goal
 
 pub returns-clause-labels : goal.returns-clause-labels
 returns-clause-labels c E e a b labelled v l =
