@@ -3,7 +3,7 @@ ghost use Rattle.seed.specs.declared.store.TheConstants.{NODES};
 ghost use Rattle.straight.specs.Built.{Answer};
 
 use crate::laying::{Plan, measure};
-use seed::{NODES, Seed};
+use seed::{NODES, SeedTree};
 use space::{Space, Spot};
 use std::alloc::{AllocError, Global};
 use walk::Allowance;
@@ -27,30 +27,26 @@ impl Builder {
     }
 
     /// Builds the straight tree of the seed in place of what the table held, and answers its wire. The sinks are the nodes from 1 to
-    /// `pins` - 1, and `spots` has the spot of each node. Nothing, with the table and the listed breakpoints as they were, where the seed
-    /// is no tree or there is not one spot for each of its nodes.
-    // Kept: the nodes come as one slice, pins first, so `pins` says where the pins end.
+    /// `pins` - 1, and `spots` has the spot of each node, those of the pins first. `None`, with the table and the listed breakpoints as they
+    /// were, where there is not one spot for each node.
     pub fn straight<S: Space>(
         &mut self,
         space: &S,
         spots: &[Spot],
         pins: usize,
         allowance: Allowance,
-        seed: &Seed,
+        seed: &SeedTree<'_>,
         tree: &mut tree::Table,
     ) -> Option<u64>
-        ensures { Answer S.Space space.now tree.old self.old.broken.items spots.now allowance.p allowance.q pins seed.now self.new.broken.items result tree.new }
+        ensures { Answer S.Space space.now tree.old self.old.broken.items spots.now allowance.p allowance.q pins seed.now.seed.now self.new.broken.items result tree.new }
     {
-        if !seed.tree() || seed.nodes() != spots.len() {
-            return None;
-        }
-        measure(&mut self.walk, space, spots);
+        measure(&mut self.walk, space, spots)?;
         self.walk.walk(seed, pins, allowance).ok()?;
         let plan = Plan {
             walk: &self.walk,
             spots,
         };
-        plan.lay(tree, &mut self.broken);
+        plan.lay(tree, &mut self.broken)?;
         Some(tree.wire())
     }
 
