@@ -107,7 +107,11 @@ impl<'a> Report<'a> {
         let allowance = self.allowance;
         let Tables { seed, table, .. } = &mut self.tables;
         fill(table, space, pins);
-        if pins.len() < 2 || table.walk(seed, pins.len(), allowance).is_err() {
+        let walked = match seed.as_tree() {
+            Some(tree) if pins.len() >= 2 => table.walk(&tree, pins.len(), allowance).is_ok(),
+            _ => false,
+        };
+        if !walked {
             return println!(self.rt; "  no walk at {allowance}: no sinks");
         }
         let count = table.breakpoints();

@@ -7,8 +7,8 @@ use native.Mathlib.Bridge.{le_prop}
 use native.Mathlib.Nat.{ℕ_set}
 use Rattle.forest.specs.declared.Edge.{Edge}
 use Rattle.seed.specs.Seeds.{nodes_of}
-use Rattle.seed.specs.declared.store.Refusal.{Refusal}
-use Rattle.seed.specs.declared.store.Refusal.TheVariants as refusal
+use Rattle.seed.specs.declared.store.SeedFault.{SeedFault}
+use Rattle.seed.specs.declared.store.SeedFault.TheVariants as fault
 use Rattle.seed.specs.declared.store.Seed.{Seed}
 use Rattle.space.specs.declared.Space.{Ghosts}
 use Rattle.space.specs.declared.spot.Spot.{Spot}
@@ -41,12 +41,12 @@ same_board a b s p l e t = λ i.
     }
 
 -- of some pins that a seed has room for, a seed is grown
-pub grown : {X : Type 0} (G : Ghosts X) (s : X) (pins : List Spot) (t₀ : Seed) (r : Result ℕ Refusal) (t : Seed) → Grown G s pins t₀ r t → 0 < length pins → length pins ≤ 512 → Spanned G s pins (result_unwrap_or r 0) t
+pub grown : {X : Type 0} (G : Ghosts X) (s : X) (pins : List Spot) (t₀ : Seed) (r : Result ℕ SeedFault) (t : Seed) → Grown G s pins t₀ r t → 0 < length pins → length pins ≤ 512 → Spanned G s pins (result_unwrap_or r 0) t
 grown G s pins t₀ (Ok w) t h some few = h
-grown G s pins t₀ (Err refusal.Outside) t h some few = ⊎_elim (λ e. absurd (omega (arith, e))) (λ l. absurd (omega arith)) h.0
-grown G s pins t₀ (Err refusal.Joined) t h some few = absurd h
-grown G s pins t₀ (Err refusal.Short) t h some few = absurd h
-grown G s pins t₀ (Err refusal.Long) t h some few = absurd h
+grown G s pins t₀ (Err fault.Outside) t h some few = ⊎_elim (λ e. absurd (omega (arith, e))) (λ l. absurd (omega arith)) h.0
+grown G s pins t₀ (Err fault.Joined) t h some few = absurd h
+grown G s pins t₀ (Err fault.Short) t h some few = absurd h
+grown G s pins t₀ (Err fault.Long) t h some few = absurd h
 
 -- a spot that is apart from the first spots is apart from those numbers among all spots
 pub first_apart : {X : Type 0} (G : Ghosts X) (s : X) (z : Spot) (some spots : List Spot) (n : ℕ) → some ≡ spots → n ≤ length spots → (b : Bool) → Decides b ((k : ℕ) → k < length (take n some) → 1 ≤ reach_of G s (spot_of (take n some) k) z) → Decides b ((k : ℕ) → k < n → 1 ≤ reach_of G s (spot_of spots k) z)

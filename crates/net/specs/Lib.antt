@@ -1,3 +1,4 @@
 pub mod Nets
 pub mod Sinks
 pub mod Seen
+pub mod Building

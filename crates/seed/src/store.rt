@@ -54,11 +54,11 @@ impl Model for Seed {
     ghost Value = { SeedValue };
 
     ghost view = { λ s. record {
-        nodes = length s.labels.of.items;
-        edges = s.edges.items;
-        few = s.few;
-        fewer = s.fewer;
-        sound = s.sound;
+      nodes = length s.labels.of.items;
+      edges = s.edges.items;
+      few = s.few;
+      fewer = s.fewer;
+      sound = s.sound;
     } };
 }
 

@@ -13,8 +13,7 @@ invariant_of-self-inside c =
     let E = s.edges.items in
     let m = length c.add.new.self.of.items in
     let q : m ≡ n + 1 = ap length c.add.ensures ∙ length_push s.labels.of.items n in
-    let own = label_alone n E n s.sound (omega arith) in
-    (
+    let own = label_alone n E n s.sound (omega arith) in (
       omega (arith, q, c.if-node-ge-NODES.false, c.nodes-node.ensures, ap (λ (x : SeedValue). x.nodes) c.self.view_is),
       (
         s.room,
