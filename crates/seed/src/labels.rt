@@ -57,7 +57,8 @@ impl Labels {
         requires a { a < length self.old.of.items }
         requires b { b < length self.old.of.items }
         ensures count { length self.new.of.items ≡ length self.old.of.items }
-        ensures labels { (E : List Edge) (e : Edge) → e.a ≡ a → e.b ≡ b → Labelled E self.old.of.items → Labelled (E ++ e ∷ []) self.new.of.items }
+        ensures labels { (E : List Edge) (e : Edge) → e.a ≡ a → e.b ≡ b
+            → Labelled E self.old.of.items → Labelled (E ++ e ∷ []) self.new.of.items }
     {
         let to = self.of[a];
         let from = self.of[b];

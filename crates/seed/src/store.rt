@@ -63,7 +63,7 @@ impl Model for Seed {
 }
 
 impl Seed {
-    ghost use Rattle.seed.specs.Seeds.{Added, Asked, OneMore, Restarted};
+    ghost use Rattle.seed.specs.Seeds.{Added, Asked, Inside, OneMore, Restarted};
 
     /// A seed without nodes. All memory that it will ever use is reserved here.
     pub fn new(heap: Global) -> Result<Seed, AllocError>
@@ -174,7 +174,7 @@ impl Seed {
 
     /// Whether `a` and `b` are nodes that a chain of edges joins. Costs the same however long the chain.
     pub fn joined(&self, a: usize, b: usize) -> bool
-        ensures { IsTrue result ↔ ((a < self.now.nodes) × (b < self.now.nodes) × Joined self.now.edges a b) }
+        ensures { IsTrue result ↔ (Inside self.now a b × Joined self.now.edges a b) }
     {
         a < self.nodes() && b < self.nodes() && self.labels.joined(a, b)
     }

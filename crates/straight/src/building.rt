@@ -38,7 +38,8 @@ impl Builder {
         seed: &SeedTree<'_>,
         tree: &mut tree::Table,
     ) -> Option<u64>
-        ensures { Answer S.Space space.now tree.old self.old.broken.items spots.now allowance.p allowance.q pins seed.now.seed.now self.new.broken.items result tree.new }
+        ensures { Answer S.Space space.now tree.old self.old.broken.items spots.now allowance.p allowance.q pins
+            seed.now.seed.now self.new.broken.items result tree.new }
     {
         measure(&mut self.walk, space, spots)?;
         self.walk.walk(seed, pins, allowance).ok()?;

@@ -16,7 +16,8 @@ use walk::Mark;
 /// Gives the walk a row for each spot, with its distance from the driver. `None` where there are more spots than a walk can have rows.
 pub(crate) fn measure<S: Space>(walk: &mut walk::Table, space: &S, spots: &[Spot]) -> Option<()>
     ensures room { IsSome result ↔ (length spots.now ≤ NODES) }
-    ensures rows { OnSome result (directs_of (walkRows walk.new) ≡ map (reach_of S.Space space.now (spot_at spots.now 0)) spots.now) }
+    ensures rows { OnSome result
+        (directs_of (walkRows walk.new) ≡ map (reach_of S.Space space.now (spot_at spots.now 0)) spots.now) }
 {
     walk.clear();
     let driver = spot_of(spots, 0);

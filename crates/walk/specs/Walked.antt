@@ -5,7 +5,11 @@ use Rattle.forest.specs.Growth.{Planted}
 use Rattle.walk_laws.specs.Walk as laws
 use Rattle.walk_laws.specs.Promise.{Guarantee, SeenFrom}
 use Rattle.walk.specs.declared.row.Row.{Row}
-use Rattle.walk.specs.Marks.{marks, froms, nexts, directs}
+use Rattle.seed.specs.declared.store.Seed.{Seed}
+use Rattle.walk.specs.declared.allowance.Allowance.{Allowance}
+use Rattle.walk.specs.declared.table.Table.{Table}
+use Rattle.walk.specs.Marks.{marks, froms, nexts, directs, rules_of}
+use Rattle.walk.specs.Tables.{rows_of}
 
 -- Rows that no walk has touched yet, one for each of n nodes.
 pub record Ready (n : ℕ) (rows : List Row) : Type 0 where
@@ -20,6 +24,14 @@ pub record Walked (R : laws.Rules) (n : ℕ) (E : List Edge) (S : laws.Table) : 
   pub seen : SeenFrom n E planted.forest
   pub is : S ≡ laws.walk R 0 planted.forest laws.start
   pub keeps : Guarantee R n planted.forest S
+
+-- The rules of a walk with the direct distances of the table.
+abbrev pub rules_in : Allowance → (pins : ℕ) → Table → laws.Rules
+rules_in a pins t = rules_of a.p a.q pins (rows_of t)
+
+-- The table t holds what the walk over the seed s gives.
+abbrev pub WalkedOver : laws.Rules → (s : Seed) → (t : Table) → Type 0
+WalkedOver R s t = Walked R s.nodes s.edges (marks (rows_of t))
 
 -- The rows are as many as before, and their direct distances are what they were.
 pub record Kept (rows rows' : List Row) : Type 0 where

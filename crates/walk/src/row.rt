@@ -64,7 +64,8 @@ impl Mark {
     pub(crate) fn entered(self, v: usize, direct: u64, rules: Rules) -> Mark
         requires near { direct ≤ LONGEST }
         requires room { Low self.est 0 }
-        ensures { seen result ≡ entered_by (nat_lt 0 v && nat_lt v rules.pins) rules.allowance.p rules.allowance.q direct self.est (seen self) }
+        ensures { seen result ≡ entered_by (nat_lt 0 v && nat_lt v rules.pins)
+            rules.allowance.p rules.allowance.q direct self.est (seen self) }
     {
         match self.est {
             Some(e) if rules.breaks(v, direct, e) => Mark {
@@ -95,7 +96,8 @@ impl Row {
     pub(crate) fn enter(&mut self, v: usize, from: usize, from_length: u64, rules: Rules)
         requires near { self.old.direct ≤ LONGEST }
         requires room { Low self.old.mark.est 0 }
-        ensures mark { seen self.new.mark ≡ entered_by (nat_lt 0 v && nat_lt v rules.pins) rules.allowance.p rules.allowance.q self.old.direct self.old.mark.est (seen self.old.mark) }
+        ensures mark { seen self.new.mark ≡ entered_by (nat_lt 0 v && nat_lt v rules.pins)
+            rules.allowance.p rules.allowance.q self.old.direct self.old.mark.est (seen self.old.mark) }
         ensures place { self.new ≡ opened self.new.mark self.old.direct from from_length }
     {
         self.mark = self.mark.entered(v, self.direct, rules);

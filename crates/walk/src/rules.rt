@@ -23,7 +23,8 @@ impl Rules {
     pub(crate) fn breaks(self, v: usize, direct: u64, e: u64) -> bool
         requires near { direct ≤ LONGEST }
         requires low { e ≤ highest }
-        ensures { result ≡ (nat_lt 0 v && nat_lt v self.pins && nat_lt ((self.allowance.p + self.allowance.q) * direct) (self.allowance.q * e)) }
+        ensures { result ≡ (nat_lt 0 v && nat_lt v self.pins
+            && nat_lt ((self.allowance.p + self.allowance.q) * direct) (self.allowance.q * e)) }
     {
         self.is_sink(v) && self.allowance.exceeded(direct, e)
     }

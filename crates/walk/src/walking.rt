@@ -2,9 +2,9 @@
 ghost use Rattle.std.specs.Prelude.{◌≡◌, ◌+◌, ◌<◌, ◌↔◌, length, IsOk, OnErr, OnOk, ◌≢◌, slice_index_or};
 ghost use Rattle.walk_laws.specs.Walk.{relax};
 ghost use Rattle.walk.specs.Limits.{Low};
-ghost use Rattle.walk.specs.Marks.{Gone, Places, idle, marks, rules_by, rules_of};
+ghost use Rattle.walk.specs.Marks.{Gone, Places, idle, marks, rules_by};
 ghost use Rattle.walk.specs.Tables.{Renewed, rows_of};
-ghost use Rattle.walk.specs.Walked.{Kept, Ready, Walked};
+ghost use Rattle.walk.specs.Walked.{Kept, Ready, WalkedOver, rules_in};
 
 use crate::allowance::Allowance;
 use crate::row::Row;
@@ -25,7 +25,7 @@ impl Table {
     ) -> Result<(), WalkFault>
         ensures taken { IsOk result ↔ (length (rows_of self.old) ≡ tree.now.seed.now.nodes) }
         ensures refused { OnErr result (self.new ≡ self.old) }
-        ensures walked { OnOk result (Walked (rules_of allowance.p allowance.q pins (rows_of self.old)) tree.now.seed.now.nodes tree.now.seed.now.edges (marks (rows_of self.new))) }
+        ensures walked { OnOk result (WalkedOver (rules_in allowance pins self.old) tree.now.seed.now self.new) }
         ensures kept { Kept (rows_of self.old) (rows_of self.new) }
     {
         if self.len() != tree.seed.nodes() {
@@ -48,7 +48,7 @@ impl Table {
     /// Takes the steps of the walk over a seed, from fresh rows.
     fn take_steps(&mut self, tree: &SeedTree<'_>, rules: Rules)
         requires { Ready tree.now.seed.now.nodes (rows_of self.old) }
-        ensures walked { Walked (rules_by rules (rows_of self.old)) tree.now.seed.now.nodes tree.now.seed.now.edges (marks (rows_of self.new)) }
+        ensures walked { WalkedOver (rules_by rules (rows_of self.old)) tree.now.seed.now self.new }
         ensures kept { Kept (rows_of self.old) (rows_of self.new) }
     {
         let seed = tree.seed;
@@ -75,7 +75,8 @@ impl Table {
         requires apart { u ≢ v }
         requires told { Low (slice_index_or (rows_of self.old) v idle).mark.est l }
         requires room { Low (relax v u l (marks (rows_of self.old)) u).est 0 }
-        ensures { Gone rules.allowance.p rules.allowance.q rules.pins v u l (rows_of self.old) (rows_of self.new) }
+        ensures { Gone rules.allowance.p rules.allowance.q rules.pins v u l
+            (rows_of self.old) (rows_of self.new) }
     {
         self.relax(v, u, l);
         self.rows[u].enter(u, v, l, rules);
