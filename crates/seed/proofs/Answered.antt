@@ -1,5 +1,5 @@
 -- What a caller learns from a seed's answers.
-use Rattle.std.proofs.Common.{◌≡◌, ℕ, ◌<◌, ◌≤◌, true, false, [], ◌∷◌, ◌++◌, is_ok, Ok, Err, Result, refl, arith}
+use Rattle.std.proofs.Common.{◌≡◌, ℕ, ◌<◌, ◌≤◌, true, false, [], is_ok, Ok, Err, Result, refl, arith}
 use Rattle.space.specs.declared.TheConstants.{LONGEST}
 use Rattle.forest.specs.Edges.{Joined, edge}
 use Rattle.seed.specs.declared.store.Seed.{Seed}
