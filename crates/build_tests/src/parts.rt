@@ -41,7 +41,7 @@ fn joins(rt: HostRuntime) -> Result<(), Fail> {
 fn straight(builder: &mut Builder, seed: &Seed, table: &mut Table) -> Option<u64> {
     let spare = Allowance::new(0, 1)?;
     let spots = [at(0, 0), at(5, 5), at(5, 0)];
-    builder.straight(&Plane, &spots, 3, spare, seed, table)
+    builder.straight(&Plane, &spots, 3, spare, &seed.as_tree()?, table)
 }
 
 fn check_builder(rt: &impl Abort, builder: &mut Builder, seed: &mut Seed, table: &mut Table) {

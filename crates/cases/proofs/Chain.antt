@@ -1,12 +1,11 @@
 -- Seeds that join each node with the next: what they are seen from the driver. Assumes nothing.
 use Rattle.std.proofs.Common.{◌≡◌, ℕ, zero, suc, ◌+◌, ◌<◌, ◌≤◌, ◌⊎◌, sym, refl, ap, ◌∙◌, subst, inl, inr, ⊎_elim, arith}
 use Rattle.std.proofs.lemmas.Bool.{cases_lt}
-use Rattle.forest.specs.Edges.{Near}
+use Rattle.forest.specs.Edges.{Near, edge}
 use Rattle.forest.specs.Growth.{Grows, Least}
 use Rattle.forest.specs.Growth.Grows.{bare, grown}
 use Rattle.forest.specs.Rooted.{Forest, none, kid}
 use Rattle.forest.proofs.Chains.{Newly, near_cases, near_new, near_none, near_push}
-use Rattle.seed.specs.Seeds.{edge}
 use Rattle.cases.specs.Table.{chain}
 
 module _ (d : ℕ → ℕ → ℕ) where

@@ -2,16 +2,16 @@
 use Rattle.std.proofs.Common.{◌≡◌, ℕ, zero, suc, ◌<◌, ◌≤◌, Bool, true, ◌||◌, eqb, leb, Ok, Err, Result, refl, ap, ◌∙◌, ⊎_elim, arith}
 use Rattle.std.proofs.lemmas.Bool.{eqb-true, leb-true, or_cases}
 use Rattle.forest.specs.Edges.{wire}
-use Rattle.seed.specs.Seeds.{edges_of}
-use Rattle.seed.specs.declared.store.Refusal.{Refusal}
-use Rattle.seed.specs.declared.store.Refusal.TheVariants as refusal
+use Rattle.seed.specs.declared.store.SeedFault.{SeedFault}
+use Rattle.seed.specs.declared.store.SeedFault.TheVariants as fault
 use Rattle.seed.specs.declared.store.Seed.{Seed}
 use Rattle.span.specs.Grown.{Grown}
-use Rattle.built_spaces.specs.contracts.plane.PlaneSpace.TheImpl as planeSpace
-use Rattle.span.specs.Lengths.{Pinned, distance_of, spot_of}
-use Rattle.span.specs.Spanning.{Spanning, Steps}
-use Rattle.span.proofs.Checks.{every, every_at, first_by, pair_by}
-use Rattle.span.proofs.Steps.{spanning_only}
+use Rattle.space.specs.contracts.plane.PlaneSpace.TheImpl as planeSpace
+use Rattle.space.specs.Spots.{spot_of}
+use Rattle.span.specs.Lengths.{Pinned, distance_of}
+use Rattle.span_laws.specs.Spanning.{Spanning, Steps}
+use Rattle.span_laws.proofs.Checks.{every, every_at, first_by, pair_by}
+use Rattle.span_laws.proofs.Steps.{spanning_only}
 use Rattle.cases.specs.Table.{PlaneSpans, plane, square, square_seed}
 
 abbrev far : ℕ → ℕ → ℕ
@@ -51,14 +51,14 @@ apart u v h k ne =
 pinned : Pinned planeSpace.ghosts plane square
 pinned = record { narrow = omega arith; admitted = admits; apart = apart }
 
-grown_square : (t₀ t : Seed) (r : Result ℕ Refusal) → Grown planeSpace.ghosts plane square t₀ r t → (r ≡ Ok 18) × (edges_of t ≡ square_seed)
+grown_square : (t₀ t : Seed) (r : Result ℕ SeedFault) → Grown planeSpace.ghosts plane square t₀ r t → (r ≡ Ok 18) × (t.edges ≡ square_seed)
 grown_square t₀ t (Ok w) g =
-    let e : edges_of t ≡ square_seed = spanning_only 4 far (edges_of t) square_seed (g.measured pinned) spans in
+    let e : t.edges ≡ square_seed = spanning_only 4 far t.edges square_seed (g.measured pinned) spans in
     (ap Ok (g.wired ∙ ap wire e), e)
-grown_square t₀ t (Err refusal.Outside) g = absurd (⊎_elim (λ (e : ◌≡◌ {A = ℕ} 4 0). omega arith) (λ (l : 512 < 4). omega arith) g.0)
-grown_square t₀ t (Err refusal.Joined) g = absurd g
-grown_square t₀ t (Err refusal.Short) g = absurd g
-grown_square t₀ t (Err refusal.Long) g = absurd g
+grown_square t₀ t (Err fault.Outside) g = absurd (⊎_elim (λ (e : ◌≡◌ {A = ℕ} 4 0). omega arith) (λ (l : 512 < 4). omega arith) g.0)
+grown_square t₀ t (Err fault.Joined) g = absurd g
+grown_square t₀ t (Err fault.Short) g = absurd g
+grown_square t₀ t (Err fault.Long) g = absurd g
 
 pub square_spans : PlaneSpans square square_seed 18
 square_spans = record {

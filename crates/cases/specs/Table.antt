@@ -1,12 +1,11 @@
 -- The worked cases, as one table. Each row says what a call of the engine answers; the answers are read from the
 -- meaning of the spaces as they are implemented, which is what their calls are proved to answer. Assumes nothing.
 use Rattle.std.specs.Prelude.{◌≡◌, ℕ, zero, suc, ◌-◌, ◌<◌, Bool, true, false, ◌&&◌, List, [], ◌∷◌, ◌++◌, length, ℤ, pos, negsuc, Some, Ok, Option, Result, nat_le, slice_index_or}
-use Rattle.forest.specs.Edges.{Sound}
+use Rattle.forest.specs.Edges.{Sound, edge}
 use Rattle.forest.specs.Growth.{Grows}
 use Rattle.forest.specs.Rooted.{Forest}
 use Rattle.forest.specs.declared.Edge.{Edge}
-use Rattle.seed.specs.Seeds.{edge, edges_of}
-use Rattle.seed.specs.declared.store.Refusal.{Refusal}
+use Rattle.seed.specs.declared.store.SeedFault.{SeedFault}
 use Rattle.seed.specs.declared.store.Seed.{Seed}
 use Rattle.space.specs.Laws.{answered, limit}
 use Rattle.space.specs.declared.Space.{Ghosts}
@@ -21,7 +20,7 @@ use Rattle.built_spaces.specs.contracts.plane.PlaneJoining.TheImpl as planeJoini
 use Rattle.built_spaces.specs.contracts.plane.PlaneSpace.TheImpl as planeSpace
 use Rattle.span.specs.Grown.{Grown}
 use Rattle.span.specs.Lengths.{Pinned, distance_of}
-use Rattle.span.specs.Spanning.{Spanning}
+use Rattle.span_laws.specs.Spanning.{Spanning}
 use Rattle.walk.specs.Walked.{Walked}
 use Rattle.walk_laws.specs.Walk.{Mark, Rules, Table as Marks, blank, home, hung, start, walk}
 
@@ -69,7 +68,7 @@ pub data Fact : Type 0 where
 pub record PlaneSpans (pins : List Spot) (edges : List Edge) (w : ℕ) : Type 0 where
   pub pinned : Pinned planeSpace.ghosts plane pins
   pub spans : Spanning (length pins) (distance_of planeSpace.ghosts plane pins) edges
-  pub call : (t₀ t : Seed) (r : Result ℕ Refusal) → Grown planeSpace.ghosts plane pins t₀ r t → (r ≡ Ok w) × (edges_of t ≡ edges)
+  pub call : (t₀ t : Seed) (r : Result ℕ SeedFault) → Grown planeSpace.ghosts plane pins t₀ r t → (r ≡ Ok w) × (t.edges ≡ edges)
 
 -- The edges 0-1, 1-2, .. up to the node k, with d as the length of an edge.
 abbrev pub chain : (ℕ → ℕ → ℕ) → (k : ℕ) → List Edge

@@ -8,7 +8,6 @@ use std::process::Abort;
 use std::test::Fail;
 use walk::{Allowance, Table};
 
-// Kept: `net_tests` has the same line; a public function for it would need a contract and an edit, and would be longer.
 fn ground(x: i32, y: i32) -> Spot {
     Spot { x, y, level: 0 }
 }
@@ -76,7 +75,8 @@ fn check_walk(
         assert_eq!(rt; table.add(direct), Some(i));
     }
     let allowance = Allowance::new(p, q).ok_or("no allowance")?;
-    assert!(rt; table.walk(&seed, pins.len(), allowance).is_ok());
+    let tree = seed.as_tree().ok_or("no tree")?;
+    assert!(rt; table.walk(&tree, pins.len(), allowance).is_ok());
     for (i, (est, parent, edge, broken)) in marks.iter().copied().enumerate() {
         let mark = table.mark(i).ok_or("no row")?;
         assert_eq!(rt; (mark.est, mark.parent), (Some(est), parent));

@@ -2,6 +2,7 @@
 use Rattle.std.proofs.Common.{◌≡◌, ℕ, zero, suc, ◌+◌, ◌*◌, ◌<◌, ◌≤◌, List, [], ◌∷◌, ◌++◌, length, get_or, take, sym, ◌∙◌, subst, ⊎_elim, add-one, arith}
 use Rattle.std.proofs.lemmas.List.{take_more, take_all, take-append-le, get_or_append_left, get_or_push, length_push}
 use Rattle.std.proofs.lemmas.Bool.{cases_lt}
+use Rattle.space.specs.declared.TheConstants.{LONGEST}
 use Rattle.order.specs.Firsts.{Among}
 use Rattle.order.proofs.Finding.{among_either, among_one, among_none}
 use Rattle.forest.specs.declared.Edge.{Edge}
@@ -59,7 +60,7 @@ sound_push n E e s f i d h =
 -- ---- what every sound edge has
 
 abbrev Good : ℕ → Edge → Type 0
-Good n e = (e.a < n) × (e.b < n) × (0 < e.length) × (e.length ≤ 100000000) × (e.a ≡ e.b → ⊥)
+Good n e = (e.a < n) × (e.b < n) × (0 < e.length) × (e.length ≤ LONGEST) × (e.a ≡ e.b → ⊥)
 
 pub accepted_good : {n : ℕ} {E : List Edge} → Accepted n E → (e : Edge) → Among e E → Good n e
 accepted_good start e s = absurd (among_none s)
@@ -94,6 +95,6 @@ pub wire_push : (E : List Edge) (e : Edge) → wire (E ++ e ∷ []) ≡ wire E +
 wire_push [] e = omega arith
 wire_push (d ∷ E) e = let h = wire_push E e in omega arith
 
-pub wire_bound : {n : ℕ} {E : List Edge} → Accepted n E → wire E ≤ 100000000 * length E
+pub wire_bound : {n : ℕ} {E : List Edge} → Accepted n E → wire E ≤ LONGEST * length E
 wire_bound start = omega arith
 wire_bound (more {E} {e} h f) = omega (arith, wire_push E e, length_push E e, wire_bound h, f.3)

@@ -1,7 +1,12 @@
 -- Edges between numbered nodes, what they join, and which lists of edges are seeds. Assumes nothing.
 use Rattle.std.specs.Prelude.{◌≡◌, ℕ, ◌+◌, ◌<◌, ◌≤◌, ◌⊎◌, List, [], ◌∷◌, length, take, slice_index_or}
+use Rattle.space.specs.declared.TheConstants.{LONGEST}
 use Rattle.order.specs.Firsts.{Among}
 use Rattle.forest.specs.declared.Edge.{Edge}
+
+-- The edge between a and b of the length l.
+abbrev pub edge : (a b l : ℕ) → Edge
+edge a b l = record { a = a; b = b; length = l }
 
 -- The edge lies between u and v, whichever of them it names first.
 abbrev pub Between : Edge → ℕ → ℕ → Type 0
@@ -27,7 +32,7 @@ wire (e ∷ E) = e.length + wire E
 -- The edge may follow the edges E over n nodes: its ends are nodes, its length is at least 1 and at most 100,000,000,
 -- and the edges before it do not join its ends.
 abbrev pub Fit : (n : ℕ) → List Edge → Edge → Type 0
-Fit n E e = (e.a < n) × (e.b < n) × (0 < e.length) × (e.length ≤ 100000000) × (Joined E e.a e.b → ⊥)
+Fit n E e = (e.a < n) × (e.b < n) × (0 < e.length) × (e.length ≤ LONGEST) × (Joined E e.a e.b → ⊥)
 
 -- Each edge of the list may follow the edges before it.
 abbrev pub Sound : (n : ℕ) → List Edge → Type 0

@@ -7,16 +7,18 @@ use native.Mathlib.Bridge.{le_prop}
 use native.Mathlib.Nat.{ℕ_set}
 use Rattle.forest.specs.declared.Edge.{Edge}
 use Rattle.seed.specs.Seeds.{nodes_of}
-use Rattle.seed.specs.declared.store.Refusal.{Refusal}
-use Rattle.seed.specs.declared.store.Refusal.TheVariants as refusal
+use Rattle.seed.specs.declared.store.SeedFault.{SeedFault}
+use Rattle.seed.specs.declared.store.SeedFault.TheVariants as fault
 use Rattle.seed.specs.declared.store.Seed.{Seed}
 use Rattle.space.specs.declared.Space.{Ghosts}
 use Rattle.space.specs.declared.spot.Spot.{Spot}
 use Rattle.span.specs.Grown.{Grown, Spanned}
-use Rattle.span.specs.Lengths.{length_of, lengths, spot_of}
-use Rattle.span.specs.Spanning.{Spanning}
-use Rattle.span.proofs.Steps.{spanning_agrees}
-use Rattle.tree_laws.specs.Distances.{reach_of}
+use Rattle.space.specs.Spots.{spot_of}
+use Rattle.span.specs.Lengths.{length_of, lengths}
+use Rattle.span_laws.specs.Spanning.{Spanning}
+use Rattle.span_laws.proofs.Steps.{spanning_agrees}
+use Rattle.tree.specs.Hooks.{reach_of}
+use Rattle.tree.specs.Tables.{rows_of}
 use Rattle.tree.specs.declared.table.Table.{Table}
 use Rattle.net.specs.declared.board.Board.{Board}
 use Rattle.net.specs.declared.board.holding.Tree.TheVariants.{Standing}
@@ -34,17 +36,17 @@ same_board a b s p l e t = λ i.
       few = is_prop→PathP (λ j. p j ≤ 256) (λ j. le_prop) a.few b.few i;
       points = is_prop→PathP (λ j. length (vec_items (s j)) ≤ p j + 256) (λ j. le_prop) a.points b.points i;
       nodes = is_prop→PathP (λ j. nodes_of (e j) ≡ length (vec_items (s j))) (λ j. ℕ_set _ _) a.nodes b.nodes i;
-      tall = is_prop→PathP (λ j. (x : Table) → t j ≡ Standing x → length (vec_items (s j)) ≤ length x.rows) (λ j. hlevel props) a.tall b.tall i;
+      tall = is_prop→PathP (λ j. (x : Table) → t j ≡ Standing x → length (vec_items (s j)) ≤ length (rows_of x)) (λ j. hlevel props) a.tall b.tall i;
       two = is_prop→PathP (λ j. (x : Table) → t j ≡ Standing x → 2 ≤ p j) (λ j. hlevel props) a.two b.two i;
     }
 
 -- of some pins that a seed has room for, a seed is grown
-pub grown : {X : Type 0} (G : Ghosts X) (s : X) (pins : List Spot) (t₀ : Seed) (r : Result ℕ Refusal) (t : Seed) → Grown G s pins t₀ r t → 0 < length pins → length pins ≤ 512 → Spanned G s pins (result_unwrap_or r 0) t
+pub grown : {X : Type 0} (G : Ghosts X) (s : X) (pins : List Spot) (t₀ : Seed) (r : Result ℕ SeedFault) (t : Seed) → Grown G s pins t₀ r t → 0 < length pins → length pins ≤ 512 → Spanned G s pins (result_unwrap_or r 0) t
 grown G s pins t₀ (Ok w) t h some few = h
-grown G s pins t₀ (Err refusal.Outside) t h some few = ⊎_elim (λ e. absurd (omega (arith, e))) (λ l. absurd (omega arith)) h.0
-grown G s pins t₀ (Err refusal.Joined) t h some few = absurd h
-grown G s pins t₀ (Err refusal.Short) t h some few = absurd h
-grown G s pins t₀ (Err refusal.Long) t h some few = absurd h
+grown G s pins t₀ (Err fault.Outside) t h some few = ⊎_elim (λ e. absurd (omega (arith, e))) (λ l. absurd (omega arith)) h.0
+grown G s pins t₀ (Err fault.Joined) t h some few = absurd h
+grown G s pins t₀ (Err fault.Short) t h some few = absurd h
+grown G s pins t₀ (Err fault.Long) t h some few = absurd h
 
 -- a spot that is apart from the first spots is apart from those numbers among all spots
 pub first_apart : {X : Type 0} (G : Ghosts X) (s : X) (z : Spot) (some spots : List Spot) (n : ℕ) → some ≡ spots → n ≤ length spots → (b : Bool) → Decides b ((k : ℕ) → k < length (take n some) → 1 ≤ reach_of G s (spot_of (take n some) k) z) → Decides b ((k : ℕ) → k < n → 1 ≤ reach_of G s (spot_of spots k) z)

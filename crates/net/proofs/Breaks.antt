@@ -19,7 +19,7 @@ use Rattle.tree_laws.specs.Distances.{join_of, reach_of}
 use Rattle.space.specs.declared.Joining.{Ghosts as JoinGhosts}
 use Rattle.space.specs.declared.Space.{Ghosts}
 use Rattle.space.specs.declared.spot.Spot.{Spot}
-use Rattle.span.specs.Lengths.{spot_of as spot_at}
+use Rattle.space.specs.Spots.{spot_of as spot_at}
 use Rattle.straight.specs.Built.{StraightBy, Straightened, breakpoints_of}
 use Rattle.straight.proofs.Mixed.{among_breakpoints}
 use Rattle.tree.specs.declared.table.Table.{Table as Tree-table}

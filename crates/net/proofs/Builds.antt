@@ -11,7 +11,7 @@ use Rattle.seed.specs.Seeds.{edges_of, nodes_of}
 use Rattle.seed.specs.declared.store.Seed.{Seed}
 use Rattle.space.specs.declared.Space.{Ghosts}
 use Rattle.space.specs.declared.spot.Spot.{Spot}
-use Rattle.span.specs.Lengths.{spot_of}
+use Rattle.space.specs.Spots.{spot_of}
 use Rattle.straight.specs.Built.{Answer, Matches, StraightBy, Straightened}
 use Rattle.tree_laws.specs.Distances.{reach_of}
 use Rattle.tree.specs.declared.table.Table.{Table}

@@ -1,4 +1,4 @@
 pub mod Nets
 pub mod Sinks
 pub mod Seen
-pub mod Moves
+pub mod Building

@@ -2,8 +2,8 @@
 ghost use Rattle.std.specs.Prelude.{◌≡◌, ℕ, ◌<◌, ◌≤◌, true, length, Decides};
 ghost use Rattle.net_laws.specs.declared.fault.SpaceFault.TheVariants.{TooWide, NotAdmitted};
 ghost use Rattle.space.specs.Laws.{limit};
-ghost use Rattle.span.specs.Lengths.{spot_of};
-ghost use Rattle.tree_laws.specs.Distances.{reach_of};
+ghost use Rattle.space.specs.Spots.{spot_of};
+ghost use Rattle.tree.specs.Hooks.{reach_of};
 ghost use Rattle.net.specs.Nets.{Checked};
 
 use net_laws::SpaceFault;

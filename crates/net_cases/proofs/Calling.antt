@@ -7,10 +7,10 @@ use Rattle.forest.specs.declared.Edge.{Edge}
 use Rattle.forest.proofs.Labelled.{joined_label}
 use Rattle.space.specs.Laws.{limit}
 use Rattle.space.specs.declared.spot.Spot.{Spot}
-use Rattle.span.specs.Lengths.{spot_of as spot_at}
-use Rattle.span.specs.Spanning.{Spanning}
-use Rattle.span.proofs.Checks.{every, every_at}
-use Rattle.span.proofs.Steps.{spanning_only}
+use Rattle.space.specs.Spots.{spot_of as spot_at}
+use Rattle.span_laws.specs.Spanning.{Spanning}
+use Rattle.span_laws.proofs.Checks.{every, every_at}
+use Rattle.span_laws.proofs.Steps.{spanning_only}
 use Rattle.tree_laws.specs.Trees.{wire_of}
 use Rattle.tree_laws.specs.declared.Row.{Row}
 use Rattle.net_laws.specs.Answers.{JoinAnswers, JoinedTree, Lawful, StraightTree, World, builds}

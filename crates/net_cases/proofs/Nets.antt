@@ -17,7 +17,7 @@ use Rattle.order.specs.Firsts.Among.{here, there}
 use Rattle.order.specs.Orders.{then_by}
 use Rattle.order.proofs.Finding.{among_either, among_one}
 use Rattle.space.specs.declared.spot.Spot.{Spot}
-use Rattle.span.specs.Lengths.{spot_of as spot_at}
+use Rattle.space.specs.Spots.{spot_of as spot_at}
 use Rattle.tree_laws.specs.Trees.{wire_of}
 use Rattle.tree_laws.specs.declared.Row.{Row}
 use Rattle.walk_laws.specs.Walk.{start, walk}

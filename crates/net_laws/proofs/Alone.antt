@@ -8,8 +8,8 @@ use Rattle.build_laws.specs.Pairs.{pair_order}
 use Rattle.order.specs.Orders.{Order}
 use Rattle.tree_laws.specs.Shares.{share_order, shared_by}
 use Rattle.space.specs.declared.spot.Spot.{Spot}
-use Rattle.span.proofs.Steps.{spanning_only}
-use Rattle.span.specs.Lengths.{spot_of as spot_at}
+use Rattle.span_laws.proofs.Steps.{spanning_only}
+use Rattle.space.specs.Spots.{spot_of as spot_at}
 use Rattle.order.specs.Bests.{BestOf}
 use Rattle.tree_laws.specs.Hooks.{hook_order}
 use Rattle.tree_laws.specs.Trees.{hang, spot_of}

@@ -1,15 +1,14 @@
 -- Every run on a new net keeps the guarantee. Assumes nothing.
 use Rattle.std.proofs.Common.{◌≡◌, ℕ, ◌+◌, ◌*◌, ◌<◌, ◌≤◌, true, false, ◌&&◌, List, [], ◌∷◌, ◌++◌, length, take, is_some, Some, Ok, Err, Result, sym, refl, ap, ◌∙◌, subst, inl, inr, append_assoc, append-nil, mul-le-mul_left, arith}
 use Rattle.std.proofs.lemmas.List.{get_or_append_left, length_push, take_at}
-use Rattle.forest.specs.Edges.{wire}
+use Rattle.forest.specs.Edges.{wire, edge}
 use Rattle.forest.specs.declared.Edge.{Edge}
 use Rattle.forest.proofs.Accepted.{sound_none}
 use Rattle.order.proofs.Finding.{among_none}
-use Rattle.seed.specs.Seeds.{edge}
 use Rattle.space.specs.declared.spot.Spot.{Spot}
-use Rattle.span.specs.Lengths.{origin, spot_of as spot_at}
-use Rattle.span.specs.Spanning.{Spanning}
-use Rattle.span.proofs.Steps.{spanning_agrees, spanning_only}
+use Rattle.space.specs.Spots.{origin, spot_of as spot_at}
+use Rattle.span_laws.specs.Spanning.{Spanning}
+use Rattle.span_laws.proofs.Steps.{spanning_agrees, spanning_only}
 use Rattle.tree_laws.specs.Trees.{Hung, length_of, path_length, row_of, spot_of, up, wire_of}
 use Rattle.tree_laws.specs.declared.Row.{Row}
 use Rattle.tree_laws.proofs.Ways.{hung}

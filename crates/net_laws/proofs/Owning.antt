@@ -9,8 +9,8 @@ use Rattle.tree_laws.proofs.ShareMoves as sharing
 use Rattle.tree_laws.specs.declared.share.Share.{Share}
 use Rattle.space.specs.Laws.{limit}
 use Rattle.space.specs.declared.spot.Spot.{Spot}
-use Rattle.span.specs.Lengths.{origin, spot_of as spot_at}
-use Rattle.span.proofs.Steps.{spanning_agrees}
+use Rattle.space.specs.Spots.{origin, spot_of as spot_at}
+use Rattle.span_laws.proofs.Steps.{spanning_agrees}
 use Rattle.tree_laws.specs.Distances.{Measured}
 use Rattle.tree_laws.proofs.HookMoves.{measured, move_cut, move_own, settled, uncut}
 use Rattle.tree_laws.specs.Trees.{hang}

@@ -11,7 +11,7 @@ use Rattle.order.specs.Firsts.{Among}
 use Rattle.order.proofs.Finding.{among_none}
 use Rattle.space.specs.Laws.{limit}
 use Rattle.space.specs.declared.spot.Spot.{Spot}
-use Rattle.span.specs.Lengths.{spot_of as spot_at}
+use Rattle.space.specs.Spots.{spot_of as spot_at}
 use Rattle.tree_laws.specs.Trees.{length_of, path_length, up, wire_of}
 use Rattle.tree_laws.proofs.Ways.{hung}
 use Rattle.tree_laws.specs.declared.Row.{Row}

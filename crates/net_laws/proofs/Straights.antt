@@ -12,7 +12,7 @@ use Rattle.forest.specs.Growth.{Planted}
 use Rattle.forest.proofs.Accepted.{accepted, accepted_good}
 use Rattle.space.specs.Laws.{Metric, limit}
 use Rattle.space.specs.declared.spot.Spot.{Spot}
-use Rattle.span.specs.Lengths.{origin, spot_of as spot_at}
+use Rattle.space.specs.Spots.{origin, spot_of as spot_at}
 use Rattle.tree_laws.specs.Trees.{length_of, path_length, row_of, spot_of, up}
 use Rattle.tree_laws.specs.declared.Row.{Row}
 use Rattle.tree_laws.proofs.Ways.{path_driver}

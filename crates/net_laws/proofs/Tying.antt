@@ -3,17 +3,16 @@ use Rattle.std.proofs.Common.{◌≡◌, ℕ, suc, ◌<◌, ◌≤◌, true, Lis
 use Rattle.std.proofs.lemmas.List.{get_or_append_left, get_or_push, get_or-take, length_push}
 use Rattle.std.proofs.lemmas.Bool.{cases_lt}
 use Rattle.build_laws.specs.Joining.{Grouped}
-use Rattle.forest.specs.Edges.{Joined, Sound}
+use Rattle.forest.specs.Edges.{Joined, Sound, edge}
 use Rattle.forest.specs.declared.Edge.{Edge}
 use Rattle.forest.proofs.Accepted.{accepted, accepted_good, sound_none, sound_push, sound_wider}
 use Rattle.forest.proofs.Chains.{joined_on}
 use Rattle.order.specs.Firsts.{Among}
 use Rattle.order.proofs.Finding.{among_either, among_none, among_one}
-use Rattle.seed.specs.Seeds.{edge}
 use Rattle.space.specs.Laws.{limit}
 use Rattle.space.specs.declared.spot.Spot.{Spot}
-use Rattle.span.specs.Lengths.{origin, spot_of as spot_at}
-use Rattle.span.specs.Spanning.{Spanning}
+use Rattle.space.specs.Spots.{origin, spot_of as spot_at}
+use Rattle.span_laws.specs.Spanning.{Spanning}
 use Rattle.tree_laws.specs.declared.Row.{Row}
 use Rattle.net_laws.specs.Answers.{Hooks, JoinAnswers, JoinedTree, Lawful, Shares, StraightTree, World, breakpoints, marks_of}
 use Rattle.net_laws.specs.States.{State, unseeded, with_allowance, with_edge, with_pin, with_point, with_seed, with_tree}

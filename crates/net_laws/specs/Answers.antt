@@ -10,8 +10,8 @@ use Rattle.tree_laws.specs.Shares.{ShareMove, share_before, shared_by}
 use Rattle.tree_laws.specs.declared.share.Share.{Share}
 use Rattle.space.specs.Laws.{limit}
 use Rattle.space.specs.declared.spot.Spot.{Spot}
-use Rattle.span.specs.Lengths.{spot_of as spot_at}
-use Rattle.span.specs.Spanning.{Spanning}
+use Rattle.space.specs.Spots.{spot_of as spot_at}
+use Rattle.span_laws.specs.Spanning.{Spanning}
 use Rattle.order.specs.Bests.{BestOf}
 use Rattle.tree_laws.specs.Hooks.{HookMove, hook_before}
 use Rattle.tree_laws.specs.declared.hook.Hook.{Hook}

@@ -4,7 +4,7 @@ use Rattle.std.specs.Prelude.{◌≡◌, ℕ, ◌+◌, ◌*◌, ◌<◌, ◌≤�
 use Rattle.forest.specs.Edges as seed
 use Rattle.forest.specs.Growth.{Planted}
 use Rattle.order.specs.Firsts.{Among}
-use Rattle.span.specs.Lengths.{spot_of as spot_at}
+use Rattle.space.specs.Spots.{spot_of as spot_at}
 use Rattle.tree_laws.specs.Trees.{Hung, length_of, path_length, up, wire_of}
 use Rattle.tree_laws.specs.declared.Row.{Row}
 use Rattle.walk_laws.specs.Promise.{Branch, Spares}

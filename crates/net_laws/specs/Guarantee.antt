@@ -3,7 +3,7 @@ use Rattle.std.specs.Prelude.{◌≡◌, ℕ, ◌+◌, ◌*◌, ◌<◌, ◌≤�
 use Rattle.forest.specs.Edges.{wire}
 use Rattle.forest.specs.declared.Edge.{Edge}
 use Rattle.space.specs.Laws.{Meets, Metric, limit}
-use Rattle.span.specs.Lengths.{spot_of as spot_at}
+use Rattle.space.specs.Spots.{spot_of as spot_at}
 use Rattle.tree_laws.specs.Trees.{Hung, length_of, path_length, row_of, spot_of, up, wire_of}
 use Rattle.tree_laws.specs.declared.Row.{Row}
 use Rattle.net_laws.specs.Answers.{World}

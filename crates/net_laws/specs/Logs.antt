@@ -1,10 +1,10 @@
 -- The log of a net: its calls with their answers, the newest first, and what a reader of the log knows from it. Assumes nothing.
 use Rattle.std.specs.Prelude.{◌≡◌, ℕ, ◌+◌, Bool, true, false, ◌&&◌, List, [], ◌∷◌, ◌++◌, length, Some, None, Ok, Err, Option, Result}
 use Rattle.forest.specs.declared.Edge.{Edge}
-use Rattle.seed.specs.Seeds.{edge}
+use Rattle.forest.specs.Edges.{edge}
 use Rattle.space.specs.declared.spot.Spot.{Spot}
-use Rattle.span.specs.Lengths.{spot_of as spot_at}
-use Rattle.span.specs.Spanning.{Spanning}
+use Rattle.space.specs.Spots.{spot_of as spot_at}
+use Rattle.span_laws.specs.Spanning.{Spanning}
 use Rattle.net_laws.specs.Answers.{JoinAnswers, World}
 use Rattle.net_laws.specs.States.{State}
 use Rattle.net_laws.specs.declared.call.Call.{Call}

@@ -1,7 +1,7 @@
 -- What a net holds, and what its calls make of it. Assumes nothing.
 use Rattle.std.specs.Prelude.{ℕ, ◌+◌, List, [], ◌∷◌, ◌++◌, take, Some, None, Option}
 use Rattle.forest.specs.declared.Edge.{Edge}
-use Rattle.seed.specs.Seeds.{edge}
+use Rattle.forest.specs.Edges.{edge}
 use Rattle.space.specs.declared.spot.Spot.{Spot}
 use Rattle.tree_laws.specs.declared.Row.{Row}
 

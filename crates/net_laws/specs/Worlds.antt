@@ -8,7 +8,7 @@ use Rattle.space.specs.Laws.{Meets, Metric, answered, limit}
 use Rattle.space.specs.declared.Joining.{Ghosts as JoinGhosts}
 use Rattle.space.specs.declared.Space.{Ghosts}
 use Rattle.space.specs.declared.spot.Spot.{Spot}
-use Rattle.span.specs.Lengths.{spot_of as spot_at}
+use Rattle.space.specs.Spots.{spot_of as spot_at}
 use Rattle.tree_laws.specs.Trees.{Tree, length_of, spot_of, up}
 use Rattle.tree_laws.specs.declared.Row.{Row}
 use Rattle.net_laws.specs.Answers.{Lawful, World}

@@ -1,10 +1,8 @@
 -- Comparisons of one number after another are an order.
 use Rattle.std.specs.Prelude.{◌≡◌, ℕ, ◌<◌, Bool, true, false, ltb, ◌⊎◌, ◌≢◌, nat_lt}
-use Rattle.std.proofs.Common.{sym, ap, ◌∙◌, inl, inr, ⊎_elim, arith}
+use Rattle.std.proofs.Common.{sym, ◌∙◌, inl, inr, ⊎_elim, arith}
 use Rattle.std.proofs.lemmas.Bool.{both_ways, cases_order, lt-ltb, le-ltb, ltb-true, ltb-false}
-use Rattle.order.specs.declared.link.Link.{Link}
 use Rattle.order.specs.Orders.{Order, then_by}
-use Rattle.order.specs.Links.{link_before}
 
 pub then_below : (a b : ℕ) (r : Bool) → a < b → then_by a b r ≡ true
 then_below a b r h = rw (lt-ltb a b h)
@@ -114,17 +112,3 @@ module _ {X : Type 0} (f : X → ℕ) where
 -- where only the same candidate is tied, it is an order
 pub no_ties : {X : Type 0} {Tied : X → X → Type 0} {lt : X → X → Bool} → OrderBut Tied lt → ((x y : X) → Tied x y → x ≡ y) → Order lt
 no_ties o same = record { one_way = o.one_way; chain = o.chain; apart = λ x y h k. same x y (o.apart x y h k) }
-
--- ---- links
-
-abbrev linked : ℕ → ℕ → ℕ → Link
-linked l u v = record { length = l; u = u; v = v }
-
-same_link : (a b : Link) → a.length ≡ b.length → a.u ≡ b.u → a.v ≡ b.v → a ≡ b
-same_link a b p q r =
-    ap (λ x. linked x a.u a.v) p ∙ ap (λ x. linked b.length x a.v) q ∙ ap (λ x. linked b.length b.u x) r
-
-pub link_order : Order link_before
-link_order =
-    no_ties (lower_then (λ (l : Link). l.length) (lower_then (λ (l : Link). l.u) (by_lower (λ (l : Link). l.v))))
-    (λ a b t. same_link a b t.0 t.1.0 t.1.1)

@@ -1,5 +1,4 @@
 pub mod Orders
 pub mod Firsts
 pub mod Bests
-pub mod Links
 pub mod Lexical

@@ -2,8 +2,6 @@
 
 #![tactic(auto)]
 
-mod link;
 mod rank;
 
-pub use link::Link;
 pub use rank::Rank;

@@ -1,44 +1,49 @@
--- What a seed holds, and the answer to each request to join two of its nodes. Assumes nothing.
-use Rattle.std.specs.Prelude.{◌≡◌, ℕ, ◌+◌, ◌<◌, ◌≤◌, List, [], ◌∷◌, ◌++◌, length, Some, None, Ok, Err, vec_items, Option, Result}
+-- The answer of a seed to each request to change it. Assumes nothing.
+use Rattle.std.specs.Prelude.{◌≡◌, ℕ, ◌+◌, ◌<◌, ◌≤◌, List, [], ◌∷◌, ◌++◌, Some, None, Ok, Err, Option, Result}
+use Rattle.space.specs.declared.TheConstants.{LONGEST}
 use Rattle.forest.specs.declared.Edge.{Edge}
-use Rattle.forest.specs.Edges.{Joined}
+use Rattle.forest.specs.Edges.{Joined, edge}
 use Rattle.seed.specs.declared.store.Seed.{Seed}
-use Rattle.seed.specs.declared.store.Refusal.{Refusal}
-use Rattle.seed.specs.declared.store.Refusal.TheVariants as refusal
+use Rattle.seed.specs.declared.store.SeedFault.{SeedFault}
+use Rattle.seed.specs.declared.store.SeedFault.TheVariants as fault
+use Rattle.seed.specs.declared.store.TheConstants.{NODES}
 
--- The edges in the order in which they were taken.
+-- The edges in the order in which they were taken, and how many nodes there are.
 abbrev pub edges_of : Seed → List Edge
-edges_of s = vec_items s.edges
+edges_of s = s.edges
 
--- How many nodes there are, each with its label; they are numbered from 0.
 abbrev pub nodes_of : Seed → ℕ
-nodes_of s = length (vec_items s.labels.of)
-
-abbrev pub edge : (a b l : ℕ) → Edge
-edge a b l = record { a = a; b = b; length = l }
+nodes_of s = s.nodes
 
 -- Both numbers are nodes.
 abbrev pub Inside : Seed → (a b : ℕ) → Type 0
-Inside s a b = (a < nodes_of s) × (b < nodes_of s)
+Inside s a b = (a < s.nodes) × (b < s.nodes)
+
+-- Both numbers are nodes, and no chain of edges joins them.
+abbrev pub Apart : Seed → (a b : ℕ) → Type 0
+Apart s a b = Inside s a b × (Joined s.edges a b → ⊥)
+
+-- The seed t has the edges of s and then one more, and the same nodes.
+abbrev pub OneMore : (s : Seed) → Edge → (t : Seed) → Type 0
+OneMore s e t = (t.edges ≡ s.edges ++ e ∷ []) × (t.nodes ≡ s.nodes)
 
 -- The seed s, asked for an edge of length l between a and b, answers r and is t then.
-abbrev pub Asked : (s : Seed) (a b l : ℕ) → Result (Unit {0}) Refusal → (t : Seed) → Type 0
-Asked s a b l (Ok x) t =
-    Inside s a b × (Joined (edges_of s) a b → ⊥) × (0 < l) × (l ≤ 100000000) × (edges_of t ≡ edges_of s ++ edge a b l ∷ []) × (nodes_of t ≡ nodes_of s)
-Asked s a b l (Err refusal.Outside) t = (Inside s a b → ⊥) × (t ≡ s)
-Asked s a b l (Err refusal.Joined) t = Inside s a b × Joined (edges_of s) a b × (t ≡ s)
-Asked s a b l (Err refusal.Short) t = Inside s a b × (Joined (edges_of s) a b → ⊥) × (l ≡ 0) × (t ≡ s)
-Asked s a b l (Err refusal.Long) t = Inside s a b × (Joined (edges_of s) a b → ⊥) × (100000000 < l) × (t ≡ s)
+abbrev pub Asked : (s : Seed) (a b l : ℕ) → Result (Unit {0}) SeedFault → (t : Seed) → Type 0
+Asked s a b l (Ok x) t = Apart s a b × (0 < l) × (l ≤ LONGEST) × OneMore s (edge a b l) t
+Asked s a b l (Err fault.Outside) t = (Inside s a b → ⊥) × (t ≡ s)
+Asked s a b l (Err fault.Joined) t = Inside s a b × Joined s.edges a b × (t ≡ s)
+Asked s a b l (Err fault.Short) t = Apart s a b × (l ≡ 0) × (t ≡ s)
+Asked s a b l (Err fault.Long) t = Apart s a b × (LONGEST < l) × (t ≡ s)
 
 -- The seed s, asked to start again with n nodes, answers r and is t then.
-abbrev pub Restarted : (s : Seed) (n : ℕ) → Result (Unit {0}) Refusal → (t : Seed) → Type 0
-Restarted s n (Ok x) t = (n ≤ 512) × (edges_of t ≡ []) × (nodes_of t ≡ n)
-Restarted s n (Err refusal.Outside) t = (512 < n) × (t ≡ s)
-Restarted s n (Err refusal.Joined) t = ⊥
-Restarted s n (Err refusal.Short) t = ⊥
-Restarted s n (Err refusal.Long) t = ⊥
+abbrev pub Restarted : (s : Seed) (n : ℕ) → Result (Unit {0}) SeedFault → (t : Seed) → Type 0
+Restarted s n (Ok x) t = (n ≤ NODES) × (t.edges ≡ []) × (t.nodes ≡ n)
+Restarted s n (Err fault.Outside) t = (NODES < n) × (t ≡ s)
+Restarted s n (Err fault.Joined) t = ⊥
+Restarted s n (Err fault.Short) t = ⊥
+Restarted s n (Err fault.Long) t = ⊥
 
 -- The seed s, asked for one more node, answers r and is t then.
 abbrev pub Added : (s : Seed) → Option ℕ → (t : Seed) → Type 0
-Added s None t = (nodes_of s ≡ 512) × (t ≡ s)
-Added s (Some v) t = (nodes_of s < 512) × (v ≡ nodes_of s) × (nodes_of t ≡ v + 1) × (edges_of t ≡ edges_of s)
+Added s None t = (s.nodes ≡ NODES) × (t ≡ s)
+Added s (Some v) t = (s.nodes < NODES) × (v ≡ s.nodes) × (t.nodes ≡ v + 1) × (t.edges ≡ s.edges)

@@ -2,6 +2,9 @@
 
 #![tactic(auto)]
 
+mod labels;
 mod store;
+mod tree;
 
-pub use store::{LONGEST, NODES, Refusal, Seed};
+pub use store::{LONGEST, NODES, Seed, SeedFault};
+pub use tree::SeedTree;

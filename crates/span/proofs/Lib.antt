@@ -1,3 +1,2 @@
-pub mod Checks
+pub mod Firsts
 pub mod Grows
-pub mod Steps

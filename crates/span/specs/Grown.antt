@@ -1,41 +1,42 @@
 -- The answer to the request for a spanning seed, and what holds while it grows. Assumes nothing.
 use Rattle.std.specs.Prelude.{◌≡◌, ℕ, ◌<◌, ◌≤◌, ◌⊎◌, List, length, Ok, Err, Result}
-use Rattle.order.specs.declared.link.Link.{Link}
+use Rattle.seed.specs.declared.store.TheConstants.{NODES}
+use Rattle.span_laws.specs.declared.link.Link.{Link}
 use Rattle.forest.specs.Edges.{wire}
 use Rattle.forest.specs.Paths.{Tree}
 use Rattle.forest.specs.declared.Edge.{Edge}
-use Rattle.seed.specs.Seeds.{edges_of, nodes_of}
-use Rattle.seed.specs.declared.store.Refusal.{Refusal}
-use Rattle.seed.specs.declared.store.Refusal.TheVariants as refusal
+use Rattle.seed.specs.declared.store.SeedFault.{SeedFault}
+use Rattle.seed.specs.declared.store.SeedFault.TheVariants as fault
 use Rattle.seed.specs.declared.store.Seed.{Seed}
 use Rattle.space.specs.declared.Space.{Ghosts}
 use Rattle.space.specs.declared.spot.Spot.{Spot}
 use Rattle.span.specs.Lengths.{Pinned, distance_of, lengths}
-use Rattle.span.specs.Spanning.{Alone, Firsts, Spanning, Steps}
+use Rattle.span_laws.specs.Spanning.{Spanning, Steps}
+use Rattle.span.specs.Growth.{Alone, Firsts}
 
 -- The seed t is the spanning seed of the pins, and w its wire. The lengths are the space's distances wherever the pins are such as
 -- a net can have.
 pub record Spanned {X : Type 0} (G : Ghosts X) (s : X) (pins : List Spot) (w : ℕ) (t : Seed) : Type 0 where
   pub some : 0 < length pins
-  pub few : length pins ≤ 512
-  pub nodes : nodes_of t ≡ length pins
-  pub cut : Spanning (length pins) (lengths G s pins) (edges_of t)
-  pub only : (E : List Edge) → Spanning (length pins) (lengths G s pins) E → E ≡ edges_of t
-  pub measured : Pinned G s pins → Spanning (length pins) (distance_of G s pins) (edges_of t)
-  pub tree : Tree (length pins) (edges_of t)
-  pub wired : w ≡ wire (edges_of t)
+  pub few : length pins ≤ NODES
+  pub nodes : t.nodes ≡ length pins
+  pub cut : Spanning (length pins) (lengths G s pins) t.edges
+  pub only : (E : List Edge) → Spanning (length pins) (lengths G s pins) E → E ≡ t.edges
+  pub measured : Pinned G s pins → Spanning (length pins) (distance_of G s pins) t.edges
+  pub tree : Tree (length pins) t.edges
+  pub wired : w ≡ wire t.edges
 
 -- Asked for the spanning seed of the pins in place of the seed t₀, the answer is r, and the seed is t then.
-abbrev pub Grown : {X : Type 0} → Ghosts X → X → List Spot → (t₀ : Seed) → Result ℕ Refusal → (t : Seed) → Type 0
+abbrev pub Grown : {X : Type 0} → Ghosts X → X → List Spot → (t₀ : Seed) → Result ℕ SeedFault → (t : Seed) → Type 0
 Grown G s pins t₀ (Ok w) t = Spanned G s pins w t
-Grown G s pins t₀ (Err refusal.Outside) t = ((length pins ≡ 0) ⊎ (512 < length pins)) × (t ≡ t₀)
-Grown G s pins t₀ (Err refusal.Joined) t = ⊥
-Grown G s pins t₀ (Err refusal.Short) t = ⊥
-Grown G s pins t₀ (Err refusal.Long) t = ⊥
+Grown G s pins t₀ (Err fault.Outside) t = ((length pins ≡ 0) ⊎ (NODES < length pins)) × (t ≡ t₀)
+Grown G s pins t₀ (Err fault.Joined) t = ⊥
+Grown G s pins t₀ (Err fault.Short) t = ⊥
+Grown G s pins t₀ (Err fault.Long) t = ⊥
 
 -- What holds of the seed and of the firsts F after each step.
 pub record Growing (n : ℕ) (d : ℕ → ℕ → ℕ) (t : Seed) (F : List Link) : Type 0 where
-  pub nodes : nodes_of t ≡ n
-  pub steps : Steps n d (edges_of t)
-  pub firsts : Firsts n d (edges_of t) F
-  pub alone : Alone (edges_of t)
+  pub nodes : t.nodes ≡ n
+  pub steps : Steps n d t.edges
+  pub firsts : Firsts n d t.edges F
+  pub alone : Alone t.edges

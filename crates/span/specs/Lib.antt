@@ -1,4 +1,4 @@
 pub mod Grown
 pub mod Lengths
 pub mod Measured
-pub mod Spanning
+pub mod Growth

@@ -1,11 +1,9 @@
-ghost use Rattle.std.specs.Prelude.{◌≡◌, ◌+◌, ◌<◌, length};
-ghost use Rattle.seed.specs.Seeds.{edges_of};
-ghost use Rattle.span.specs.Grown.{Growing, Grown};
-ghost use Rattle.span.specs.Measured.{lengths_of};
+ghost use Rattle.std.specs.Prelude.{◌≡◌, ◌+◌, ◌<◌, [], length, IfOk, IsOk};
+ghost use Rattle.span.specs.Grown.{Grown};
 
 use crate::links::Links;
 use crate::pins::Pins;
-use seed::{Refusal, Seed};
+use seed::{Seed, SeedFault};
 use space::{Space, Spot};
 use std::alloc::{AllocError, Global};
 
@@ -16,43 +14,52 @@ pub struct Spanner {
 }
 
 impl Spanner {
-    /// Room for the links of as many pins as a seed can have nodes.
-    pub fn new(heap: Global) -> Result<Spanner, AllocError> {
+    ghost use Rattle.span.specs.Measured.{GrowingBy};
+
+    /// Room for the links of as many pins as a seed can have nodes, and no links. All memory that it will ever use is reserved here.
+    pub fn new(heap: Global) -> Result<Spanner, AllocError>
+        ensures { IfOk result (λ s. s.links.outside.items ≡ []) }
+    {
         let links = Links::new(heap)?;
         Ok(Spanner { links })
     }
 
     /// Grows the spanning seed of the pins in place of what the seed had, and answers its wire. Refused, with the seed as it was, where there
-    /// is no pin or there are more than a seed can have nodes.
+    /// is no pin or there are more than `NODES`. For n pins it measures about n times n / 2 distances.
     pub fn grow<S: Space>(
         &mut self,
         space: &S,
         pins: &[Spot],
         seed: &mut Seed,
-    ) -> Result<u64, Refusal>
+    ) -> Result<u64, SeedFault>
         ensures { Grown S.Space space.now pins.now seed.old result seed.new }
     {
         if pins.is_empty() {
-            return Err(Refusal::Outside);
+            return Err(SeedFault::Outside);
         }
         seed.restart(pins.len())?;
         let pins = Pins { space, spots: pins };
         self.links.start(&pins);
         for _ in 1..pins.spots.len() {
-            self.step(&pins, seed);
+            self.step(&pins, seed)?;
         }
         Ok(seed.wire())
     }
 
     /// One step: the first of the firsts is taken, and its pin is compared with each pin that is still outside.
-    fn step<S: Space>(&mut self, pins: &Pins<S>, seed: &mut Seed)
-        ensures { Growing (length pins.now.spots.now) (lengths_of pins.now) seed.old self.old.links.outside.items → length (edges_of seed.old) + 1 < length pins.now.spots.now → Growing (length pins.now.spots.now) (lengths_of pins.now) seed.new self.new.links.outside.items × (length (edges_of seed.new) ≡ length (edges_of seed.old) + 1) }
+    fn step<S: Space>(&mut self, pins: &Pins<S>, seed: &mut Seed) -> Result<(), SeedFault>
+        requires growing { GrowingBy pins.now seed.old self.old.links.outside.items }
+        requires more { length seed.old.edges + 1 < length pins.now.spots.now }
+        ensures done { IsOk result }
+        ensures grows { GrowingBy pins.now seed.new self.new.links.outside.items }
+        ensures count { length seed.new.edges ≡ length seed.old.edges + 1 }
     {
         let Some(nearest) = self.links.first() else {
-            return;
+            return Err(SeedFault::Outside);
         };
-        let _ = seed.join(nearest.u, nearest.v, nearest.length);
+        seed.join(nearest.u, nearest.v, nearest.length)?;
         self.links.forget(nearest.v);
         self.links.offer(pins, nearest.v);
+        Ok(())
     }
 }

@@ -1,15 +1,16 @@
 // The first link of each pin that is still outside.
-ghost use Rattle.std.specs.Prelude.{◌≡◌, ◌-◌, ◌≤◌, map, length, vec_capacity, filter};
+ghost use Rattle.std.specs.Prelude.{◌≡◌, ◌-◌, ◌≤◌, [], map, length, vec_capacity, filter, IfOk};
+ghost use Rattle.seed.specs.declared.store.TheConstants.{NODES};
 ghost use Rattle.order.specs.Firsts.{FirstOf};
-ghost use Rattle.order.specs.Links.{link_before};
+ghost use Rattle.span_laws.specs.Links.{link_before};
 ghost use Rattle.span.specs.Measured.{lengths_of};
-ghost use Rattle.span.specs.Spanning.{better, elsewhere, fan, offered};
+ghost use Rattle.span.specs.Growth.{better, elsewhere, fan, offered};
 
 use crate::pins::Pins;
-use order::Link;
-use search::first;
+use order::first;
 use seed::NODES;
 use space::Space;
+use span_laws::Link;
 use std::alloc::{AllocError, Global};
 
 /// The first of two links.
@@ -23,11 +24,14 @@ fn nearer(old: Link, new: Link) -> Link
 #[derive(Drop)]
 pub(crate) struct Links {
     outside: Vec<Link>,
-    ghost room: { 512 ≤ vec_capacity outside },
+    ghost room: { NODES ≤ vec_capacity outside },
 }
 
 impl Links {
-    pub(crate) fn new(heap: Global) -> Result<Links, AllocError> {
+    /// No links yet.
+    pub(crate) fn new(heap: Global) -> Result<Links, AllocError>
+        ensures { IfOk result (λ l. l.outside.items ≡ []) }
+    {
         let outside = Vec::with_capacity(heap, NODES)?;
         Ok(Links { outside })
     }
@@ -44,7 +48,6 @@ impl Links {
         ensures { self.new.outside.items ≡ fan (lengths_of pins.now) (length pins.now.spots.now - 1) }
     {
         self.outside.clear();
-        // Kept: a link names its pins by number; `pins.spots.iter().enumerate().skip(1)` gives the same numbers beside spots that nothing reads.
         for v in 1..pins.spots.len() {
             self.outside.push_reserved(pins.link(0, v));
         }

@@ -1,7 +1,8 @@
 -- Rows of which some are laid as in the straight tree and the others hang on the driver. Assumes nothing.
-use Rattle.std.proofs.Common.{◌≡◌, ℕ, zero, suc, ◌+◌, ◌<◌, ◌≤◌, true, false, cond, ◌||◌, eqb, ◌⊎◌, List, [], ◌∷◌, ◌++◌, length, Some, None, Option, sym, refl, ap, ◌∙◌, subst, inl, inr, ⊎_elim, add-one, arith}
+use Rattle.std.proofs.Common.{◌≡◌, ℕ, zero, suc, ◌+◌, ◌<◌, ◌≤◌, true, false, cond, ◌||◌, eqb, ◌⊎◌, List, [], ◌∷◌, ◌++◌, length, Some, None, Option, Ok, Err, Result, sym, refl, ap, ◌∙◌, subst, inl, inr, ⊎_elim, add-one, arith}
 use Rattle.std.proofs.lemmas.List.{ext_get_or, get_or-set_other, get_or-set_same}
 use Rattle.std.proofs.lemmas.Bool.{cases_Bool, cases_lt, cond-false, cond-true, ne_eqb, or_from, or_right}
+use Rattle.space.specs.declared.TheConstants.{LONGEST}
 use Rattle.order.specs.Firsts.{Among}
 use Rattle.order.proofs.Finding.{among_either, among_none, among_one}
 use Rattle.space.specs.declared.spot.Spot.{Spot}
@@ -13,7 +14,9 @@ use Rattle.tree_laws.proofs.Adding.{add_length, add_new, add_old}
 use Rattle.tree_laws.proofs.Hanging.{hang_length}
 use Rattle.tree_laws.proofs.Ways.{off_under, placed, way_only}
 use Rattle.tree.specs.declared.table.Table.{Table as Tree-table}
-use Rattle.tree.specs.Tables.{Added}
+use Rattle.tree.specs.Tables.{Added, Changed}
+use Rattle.tree.specs.declared.table.HangFault.{HangFault}
+use Rattle.std.specs.Result.{result_ok}
 use Rattle.build_laws.specs.Straight.{straight, straight_row}
 use Rattle.build_laws.proofs.Building.{straight_length, straight_row_lem}
 use Rattle.straight.specs.Built.{breakpoints_of}
@@ -43,9 +46,19 @@ module _ (R : Rules) (S : Table) (place : ℕ → Spot) (v : ℕ) (nz : v ≡ 0 
 -- ---- all rows on the driver
 
 -- a row that there is room for is added
-pub added_rows : (s : Tree-table) (u : ℕ) (z : Spot) (l : ℕ) (r : Option ℕ) (t : Tree-table) → Added s u z l r t → u < length s.rows → l ≤ 100000000 → length s.rows < 768 → t.rows ≡ add s.rows u z l
+pub added_rows : (s : Tree-table) (u : ℕ) (z : Spot) (l : ℕ) (r : Option ℕ) (t : Tree-table) → Added s u z l r t → u < length s.rows → l ≤ LONGEST → length s.rows < 768 → t.rows ≡ add s.rows u z l
 added_rows s u z l None t a h k m = absurd (a.0 (record { parent = h; short = k; room = m }))
 added_rows s u z l (Some i) t a h k m = a.2
+
+-- and the call is not refused
+pub added_some : (s : Tree-table) (u : ℕ) (z : Spot) (l : ℕ) (r : Option ℕ) (t : Tree-table) → Added s u z l r t → u < length s.rows → l ≤ LONGEST → length s.rows < 768 → r ≡ None → ⊥
+added_some s u z l None t a h k m e = a.0 (record { parent = h; short = k; room = m })
+added_some s u z l (Some i) t a h k m e = cc
+
+-- a row that can be hung is not refused
+pub hung_ok : (s : Tree-table) (v u l : ℕ) (r : Result (Unit {0}) HangFault) (t : Tree-table) → Changed s v u l r t → Hangs s.rows v u → l ≤ LONGEST → result_ok r ≡ None → ⊥
+hung_ok s v u l (Ok x) t c h k e = cc
+hung_ok s v u l (Err f) t c h k e = c.0 h k
 
 module _ (R : Rules) (S : Table) (place : ℕ → Spot) where
   pub laying_add : (n : ℕ) (rows : List Row) (z : Spot) (d : ℕ) → 1 ≤ n → z ≡ place n → d ≡ R.direct n → Laying R S place n 1 rows → Laying R S place (n + 1) 1 (add rows 0 z d)

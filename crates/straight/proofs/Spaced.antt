@@ -2,6 +2,7 @@
 use Rattle.std.proofs.Common.{◌≡◌, ℕ, ◌+◌, ◌*◌, ◌<◌, ◌≤◌, true, false, ◌&&◌, List, map, length, get_or, sym, ap, ◌∙◌, subst, ⊎_elim, arith}
 use Rattle.std.proofs.lemmas.List.{ext_get_or, get_or-map, length-map}
 use Rattle.std.proofs.lemmas.Bool.{cases_Bool}
+use Rattle.space.specs.declared.TheConstants.{LONGEST}
 use Rattle.order.specs.Firsts.{Among}
 use Rattle.space.specs.Laws.{Metric}
 use Rattle.space.specs.declared.Space.{Ghosts}
@@ -20,7 +21,7 @@ use Rattle.build_laws.proofs.Building.{straight_length, straight_row_lem}
 use Rattle.straight.specs.Built.{Laid, Measures, StraightBy, Straightened, origin, rules_of, spot_at}
 use Rattle.straight.proofs.Mixed.{among_breakpoints, row_broken, row_hung}
 
-module _ {X : Type 0} (G : Ghosts X) (s : X) (law : G.width s ≤ 100000000 → Metric (G.admitted s) (G.width s) (G.between s)) (spots : List Spot) (n : ℕ) (E : List Edge) (sound : Sound n E) (size : n ≡ length spots) (a : Laid G s spots E) where
+module _ {X : Type 0} (G : Ghosts X) (s : X) (law : G.width s ≤ LONGEST → Metric (G.admitted s) (G.width s) (G.between s)) (spots : List Spot) (n : ℕ) (E : List Edge) (sound : Sound n E) (size : n ≡ length spots) (a : Laid G s spots E) where
   abbrev far : ℕ → ℕ → ℕ
   far u v = G.between s (spot_at spots u) (spot_at spots v)
 

@@ -1,17 +1,16 @@
 -- What the measuring, the walk and the laying come to. `d` is the distance of two spots. Assumes nothing.
-use Rattle.std.proofs.Common.{◌≡◌, ℕ, ◌+◌, ◌<◌, true, cond, eqb, List, Ok, Err, OnOk, Result, map, length, get_or, sym, ap, ◌∙◌, subst}
-use mathlib.Core.Path.{fun_ext}
+use Rattle.std.proofs.Common.{◌≡◌, ℕ, ◌<◌, true, false, List, Ok, Err, OnOk, Result, is_ok, map, length, get_or, sym, refl, ap, ◌∙◌, subst}
 use Rattle.std.proofs.lemmas.List.{length-map}
-use Rattle.std.proofs.lemmas.Bool.{cond-true, eq-eqb, eqb-true}
+use Rattle.std.proofs.lemmas.Bool.{both_ways}
+use mathlib.Core.Path.{fun_ext}
 use Rattle.space.specs.declared.spot.Spot.{Spot}
 use Rattle.forest.specs.declared.Edge.{Edge}
 use Rattle.forest.specs.Edges.{Sound}
 use Rattle.walk.specs.declared.row.Row.{Row as WalkRow}
 use Rattle.walk.specs.Marks.{directs, marks}
 use Rattle.walk.specs.Marks as walk
-use Rattle.walk.specs.declared.table.Unfit.{Unfit}
-use Rattle.walk.specs.declared.table.Unfit.TheVariants as unfit
-use Rattle.walk.specs.Walked.{Kept, Walked, fitting}
+use Rattle.walk.specs.declared.table.WalkFault.{WalkFault}
+use Rattle.walk.specs.Walked.{Kept, Walked}
 use Rattle.tree_laws.specs.declared.Row.{Row}
 use Rattle.tree_laws.specs.Trees.{wire_of}
 use Rattle.build_laws.specs.Straight.{Straight, straight}
@@ -21,27 +20,24 @@ use Rattle.straight.proofs.Distances.{directs_at}
 use Rattle.straight.proofs.Falls.{walked_falls, walked_straight}
 use Rattle.straight.proofs.Mixed.{laid_straight}
 
-pub tree_from_test : (a b : ℕ) → true ≡ eqb a b → a ≡ b
-tree_from_test a b e = eqb-true a b (sym e)
+-- what a call ensures where it is not refused, and it is not
+pub on_ok : {P : Type 0} (r : Result (Unit {0}) WalkFault) → is_ok r ≡ true → OnOk r P → P
+on_ok (Ok x) e h = h
+on_ok (Err x) e h = absurd (both_ways false refl e)
 
-module _ (d : Spot → Spot → ℕ) (spots : List Spot) (p q pins n : ℕ) (E : List Edge) (old new : List WalkRow) (r : Result (Unit {0}) Unfit) (pos : 0 < q) (sound : Sound n E) (tree : length E + 1 ≡ n) (size : n ≡ length spots)
-    (measured : directs_of old ≡ map (d (spot_at spots 0)) spots) (taken : r ≡ fitting n E old) (walks : OnOk r (Walked (walk.rules_of p q pins old) n E (marks new))) (kept : Kept old new) where
-  -- the walk is not refused
-  goes : r ≡ Ok tt
-  goes =
-      let count : length old ≡ n = sym (length-map old (λ (x : WalkRow). x.direct)) ∙ ap length measured ∙ length-map spots (d (spot_at spots 0)) ∙ sym size in
-      taken
-      ∙ cond-true (eqb (length E + 1) n) (cond (eqb (length old) n) (Ok tt) (Err unfit.Rows)) (Err unfit.NoTree) (eq-eqb (length E + 1) n tree)
-      ∙ cond-true (eqb (length old) n) (Ok tt) (Err unfit.Rows) (eq-eqb (length old) n count)
+-- there is a row for each spot
+pub rows_counted : (d : Spot → ℕ) (spots : List Spot) (rows : List WalkRow) → directs_of rows ≡ map d spots → length rows ≡ length spots
+rows_counted d spots rows h = sym (length-map rows (λ (x : WalkRow). x.direct)) ∙ ap length h ∙ length-map spots d
 
+module _ (d : Spot → Spot → ℕ) (spots : List Spot) (p q pins n : ℕ) (E : List Edge) (old new : List WalkRow) (pos : 0 < q) (sound : Sound n E) (size : n ≡ length spots)
+    (measured : directs_of old ≡ map (d (spot_at spots 0)) spots) (walks : Walked (walk.rules_of p q pins old) n E (marks new)) (kept : Kept old new) where
   direct_old : (k : ℕ) → directs old k ≡ (rules_of d p q pins spots).direct k
   direct_old k = directs_at old k ∙ ap (λ (xs : List ℕ). get_or xs k 0) measured
 
   whole_walked : Walked (rules_of d p q pins spots) n E (marks new)
   whole_walked =
       let P : (ℕ → ℕ) → Type 0 = λ f. Walked (record { p = p; q = q; pins = pins; direct = f }) n E (marks new) in
-      let Q : Result (Unit {0}) Unfit → Type 0 = λ x. OnOk x (Walked (walk.rules_of p q pins old) n E (marks new)) in
-      subst P (fun_ext direct_old) (subst Q goes walks)
+      subst P (fun_ext direct_old) walks
 
   pub whole_falls : Falling (length spots) (marks new)
   whole_falls =

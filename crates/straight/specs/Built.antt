@@ -1,5 +1,6 @@
 -- What building a straight tree answers. `d` is the distance of two spots. Assumes nothing.
 use Rattle.std.specs.Prelude.{◌≡◌, ℕ, zero, suc, ◌+◌, ◌*◌, ◌<◌, ◌≤◌, true, cond, List, [], ◌∷◌, ◌++◌, map, length, Some, None, Option, slice_index}
+use Rattle.space.specs.declared.TheConstants.{LONGEST}
 use Rattle.order.specs.Firsts.{Among}
 use Rattle.space.specs.declared.Space.{Ghosts}
 use Rattle.space.specs.declared.spot.Spot.{Spot}
@@ -7,14 +8,13 @@ pub use Rattle.space.specs.Spots.{origin}
 use Rattle.space.specs.Spots.{spot_of}
 use Rattle.forest.specs.declared.Edge.{Edge}
 use Rattle.seed.specs.declared.store.Seed.{Seed}
-use Rattle.seed.specs.Seeds.{edges_of, nodes_of}
 use Rattle.walk_laws.specs.Walk.{Rules}
 use Rattle.walk_laws.specs.Walk as laws
 use Rattle.walk.specs.Walked.{Walked}
 use Rattle.tree_laws.specs.declared.Row.{Row}
 use Rattle.tree_laws.specs.Trees.{path_length, wire_of}
 use Rattle.tree.specs.declared.table.Table.{Table}
-use Rattle.tree_laws.specs.Distances.{Measured, reach_of}
+use Rattle.tree.specs.Hooks.{Measured, reach_of}
 use Rattle.build_laws.specs.Straight.{Straight, straight}
 
 -- The spot of a node; past the spots, the origin.
@@ -45,7 +45,7 @@ Straightened d spots p q pins n E found w built = StraightBy (rules_of d p q pin
 
 -- Spots and edges in a space that keeps the laws: every spot is admitted, and the length of every edge is the distance of its ends.
 pub record Laid {X : Type 0} (G : Ghosts X) (s : X) (spots : List Spot) (E : List Edge) : Type 0 where
-  pub narrow : G.width s ≤ 100000000
+  pub narrow : G.width s ≤ LONGEST
   pub admitted : (k : ℕ) → k < length spots → G.admitted s (spot_at spots k) ≡ true
   pub edges : (e : Edge) → Among e E → e.length ≡ G.between s (spot_at spots e.a) (spot_at spots e.b)
 
@@ -59,7 +59,7 @@ pub record Measures {X : Type 0} (G : Ghosts X) (s : X) (spots : List Spot) (p q
 
 -- The seed is a tree, and there is one spot for each of its nodes.
 abbrev pub Matches : Seed → List Spot → Type 0
-Matches seed spots = (length (edges_of seed) + 1 ≡ nodes_of seed) × (nodes_of seed ≡ length spots)
+Matches seed spots = (length seed.edges + 1 ≡ seed.nodes) × (seed.nodes ≡ length spots)
 
 -- Asked to build the straight tree of the seed in place of the table t₀, the answer is r and the table is t then. `before` are the
 -- breakpoints of the tree that was built last, and `found` those that stand listed then.
@@ -67,5 +67,5 @@ abbrev pub Answer : {X : Type 0} → Ghosts X → X → (t₀ : Table) → (befo
 Answer G s t₀ before spots p q pins seed found None t = (Matches seed spots → ⊥) × (t ≡ t₀) × (found ≡ before)
 Answer G s t₀ before spots p q pins seed found (Some w) t =
     Matches seed spots
-    × Straightened (reach_of G s) spots p q pins (nodes_of seed) (edges_of seed) found w t.rows
-    × (Laid G s spots (edges_of seed) → Measures G s spots p q pins (nodes_of seed) (edges_of seed) found w t.rows)
+    × Straightened (reach_of G s) spots p q pins seed.nodes seed.edges found w t.rows
+    × (Laid G s spots seed.edges → Measures G s spots p q pins seed.nodes seed.edges found w t.rows)

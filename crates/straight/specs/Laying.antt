@@ -1,6 +1,7 @@
 -- How the rows of a straight tree are laid, one after another. Assumes nothing.
 use Rattle.std.specs.Prelude.{◌≡◌, ℕ, ◌<◌, ◌≤◌, false, List, map, length, ◌≢◌}
 use Rattle.std.specs.Option.{unwrap_or}
+use Rattle.space.specs.declared.TheConstants.{LONGEST}
 use Rattle.space.specs.declared.spot.Spot.{Spot}
 use Rattle.walk_laws.specs.Walk.{Rules}
 use Rattle.walk_laws.specs.Walk as laws
@@ -23,7 +24,7 @@ pub record Falling (n : ℕ) (S : laws.Table) : Type 0 where
   pub some : 0 < n
   pub driver : (S 0).broken ≡ false
   pub parent : (v : ℕ) → v < n → (v ≢ 0) → (S v).broken ≡ false → (S v).parent < n
-  pub short : (v : ℕ) → v < n → (v ≢ 0) → (S v).broken ≡ false → (S v).edge ≤ 100000000
+  pub short : (v : ℕ) → v < n → (v ≢ 0) → (S v).broken ≡ false → (S v).edge ≤ LONGEST
   pub falls : (v : ℕ) → v < n → (v ≢ 0) → (S v).broken ≡ false → height S (S v).parent < height S v
 
 -- The row of a node that hangs on the driver, at its direct distance.

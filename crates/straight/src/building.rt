@@ -1,8 +1,9 @@
 ghost use Rattle.std.specs.Prelude.{◌≡◌, ◌≤◌, [], IfOk, vec_capacity};
+ghost use Rattle.seed.specs.declared.store.TheConstants.{NODES};
 ghost use Rattle.straight.specs.Built.{Answer};
 
 use crate::laying::{Plan, measure};
-use seed::{NODES, Seed};
+use seed::{NODES, SeedTree};
 use space::{Space, Spot};
 use std::alloc::{AllocError, Global};
 use walk::Allowance;
@@ -12,7 +13,7 @@ use walk::Allowance;
 pub struct Builder {
     walk: walk::Table,
     broken: Vec<usize>,
-    ghost room: { 512 ≤ vec_capacity broken },
+    ghost room: { NODES ≤ vec_capacity broken },
 }
 
 impl Builder {
@@ -26,30 +27,27 @@ impl Builder {
     }
 
     /// Builds the straight tree of the seed in place of what the table held, and answers its wire. The sinks are the nodes from 1 to
-    /// `pins` - 1, and `spots` has the spot of each node. Nothing, with the table and the listed breakpoints as they were, where the seed
-    /// is no tree or there is not one spot for each of its nodes.
-    // Kept: the nodes come as one slice, pins first, so `pins` says where the pins end.
+    /// `pins` - 1, and `spots` has the spot of each node, those of the pins first. `None`, with the table and the listed breakpoints as they
+    /// were, where there is not one spot for each node.
     pub fn straight<S: Space>(
         &mut self,
         space: &S,
         spots: &[Spot],
         pins: usize,
         allowance: Allowance,
-        seed: &Seed,
+        seed: &SeedTree<'_>,
         tree: &mut tree::Table,
     ) -> Option<u64>
-        ensures { Answer S.Space space.now tree.old self.old.broken.items spots.now allowance.p allowance.q pins seed.now self.new.broken.items result tree.new }
+        ensures { Answer S.Space space.now tree.old self.old.broken.items spots.now allowance.p allowance.q pins
+            seed.now.seed.now self.new.broken.items result tree.new }
     {
-        if !seed.tree() || seed.nodes() != spots.len() {
-            return None;
-        }
-        measure(&mut self.walk, space, spots);
+        measure(&mut self.walk, space, spots)?;
         self.walk.walk(seed, pins, allowance).ok()?;
         let plan = Plan {
             walk: &self.walk,
             spots,
         };
-        plan.lay(tree, &mut self.broken);
+        plan.lay(tree, &mut self.broken)?;
         Some(tree.wire())
     }
 

@@ -1,25 +1,29 @@
 // The direct distances of the nodes, and the rows of the straight tree.
-ghost use Rattle.std.specs.Prelude.{◌≡◌, ◌≤◌, map, length, vec_capacity, slice_index_or};
-ghost use Rattle.tree_laws.specs.Distances.{reach_of};
-ghost use Rattle.walk.specs.Marks.{directs, idle, marks, rules_of};
-ghost use Rattle.walk.specs.Tables.{rows_of as walkRows};
+ghost use Rattle.std.specs.Prelude.{◌≡◌, ◌≤◌, ◌↔◌, map, length, vec_capacity, slice_index_or, IsSome, OnSome};
+ghost use Rattle.space.specs.declared.TheConstants.{LONGEST};
+ghost use Rattle.seed.specs.declared.store.TheConstants.{NODES};
+ghost use Rattle.tree.specs.Hooks.{reach_of};
+ghost use Rattle.walk.specs.Marks.{directs, idle, marks};
+ghost use Rattle.walk.specs.Tables.{as.rows walkRows};
 ghost use Rattle.straight.specs.Built.{breakpoints_of, spot_at};
-ghost use Rattle.straight.specs.Laying.{Falling, Laying, directs_of};
+ghost use Rattle.straight.specs.Laying.{Falling, directs_of};
 
 use space::{Space, Spot, spot_of};
 use tree::reach;
 use walk::Mark;
 
-/// Gives the walk a row for each spot, with its distance from the driver.
-pub(crate) fn measure<S: Space>(walk: &mut walk::Table, space: &S, spots: &[Spot])
-    requires { length spots.now ≤ 512 }
-    ensures { directs_of (walkRows walk.new) ≡ map (reach_of S.Space space.now (spot_at spots.now 0)) spots.now }
+/// Gives the walk a row for each spot, with its distance from the driver. `None` where there are more spots than a walk can have rows.
+pub(crate) fn measure<S: Space>(walk: &mut walk::Table, space: &S, spots: &[Spot]) -> Option<()>
+    ensures room { IsSome result ↔ (length spots.now ≤ NODES) }
+    ensures rows { OnSome result
+        (directs_of (walkRows walk.new) ≡ map (reach_of S.Space space.now (spot_at spots.now 0)) spots.now) }
 {
     walk.clear();
     let driver = spot_of(spots, 0);
     for spot in spots {
-        walk.add(reach(space, driver, *spot));
+        walk.add(reach(space, driver, *spot))?;
     }
+    Some(())
 }
 
 /// A finished walk and the spots of its nodes: what a straight tree is laid by.
@@ -27,14 +31,16 @@ pub(crate) fn measure<S: Space>(walk: &mut walk::Table, space: &S, spots: &[Spot
 pub(crate) struct Plan<'a> {
     pub(crate) walk: &'a walk::Table,
     pub(crate) spots: &'a [Spot],
-    ghost few: { length spots.now ≤ 512 },
+    ghost few: { length spots.now ≤ NODES },
 }
 
 impl<'a> Plan<'a> {
+    ghost use Rattle.straight.specs.Laid.{LaidTo};
+
     /// The direct distance of a node; 0 where there is no such node.
     fn direct(&self, v: usize) -> u64
         ensures value { result ≡ directs (walkRows self.now.walk.now) v }
-        ensures short { result ≤ 100000000 }
+        ensures short { result ≤ LONGEST }
     {
         self.walk.direct(v).unwrap_or_default()
     }
@@ -46,36 +52,38 @@ impl<'a> Plan<'a> {
         self.walk.mark(v).unwrap_or_default()
     }
 
-    /// Hangs every node on the driver, at its direct distance.
-    fn star(&self, tree: &mut tree::Table)
+    /// Hangs every node on the driver, at its direct distance. There is room for all of them.
+    fn star(&self, tree: &mut tree::Table) -> Option<()>
         requires { 1 ≤ length self.now.spots.now }
-        ensures { Laying (rules_of 0 0 0 (walkRows self.now.walk.now)) (marks (walkRows self.now.walk.now)) (spot_at self.now.spots.now) (length self.now.spots.now) 1 tree.new.rows }
+        ensures done { IsSome result }
+        ensures rows { LaidTo self.now 1 tree.new.rows }
     {
         tree.restart(spot_of(self.spots, 0));
-        // Kept: `v` is the number of a node, of its distance and of its row; `self.spots.iter().enumerate().skip(1)` gives the same number in a longer way.
         for v in 1..self.spots.len() {
-            tree.add(0, spot_of(self.spots, v), self.direct(v));
+            tree.add(0, spot_of(self.spots, v), self.direct(v))?;
         }
+        Some(())
     }
 
-    /// Lays the rows of the straight tree, and lists the breakpoints.
-    pub(crate) fn lay(&self, tree: &mut tree::Table, broken: &mut Vec<usize>)
-        requires room { 512 ≤ vec_capacity broken.old }
+    /// Lays the rows of the straight tree, and lists the breakpoints. Every node can be hung.
+    pub(crate) fn lay(&self, tree: &mut tree::Table, broken: &mut Vec<usize>) -> Option<()>
+        requires room { NODES ≤ vec_capacity broken.old }
         requires falling { Falling (length self.now.spots.now) (marks (walkRows self.now.walk.now)) }
-        ensures rows { Laying (rules_of 0 0 0 (walkRows self.now.walk.now)) (marks (walkRows self.now.walk.now)) (spot_at self.now.spots.now) (length self.now.spots.now) (length self.now.spots.now) tree.new.rows }
+        ensures done { IsSome result }
+        ensures rows { LaidTo self.now (length self.now.spots.now) tree.new.rows }
         ensures found { broken.new.items ≡ breakpoints_of (marks (walkRows self.now.walk.now)) (length self.now.spots.now) }
         ensures room { vec_capacity broken.new ≡ vec_capacity broken.old }
     {
-        self.star(tree);
+        self.star(tree)?;
         broken.clear();
-        // Kept: `v` is the number of a node, of its mark and of its row.
         for v in 1..self.spots.len() {
             let mark = self.mark(v);
             if mark.broken {
                 broken.push_reserved(v);
             } else {
-                let _ = tree.hang(v, mark.parent, mark.edge);
+                tree.hang(v, mark.parent, mark.edge).ok()?;
             }
         }
+        Some(())
     }
 }

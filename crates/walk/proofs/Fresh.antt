@@ -1,26 +1,13 @@
--- Rows made fresh one after another, and a walk that is not refused. Assumes nothing.
-use Rattle.std.proofs.Common.{◌≡◌, ℕ, ◌+◌, ◌<◌, ◌≤◌, Bool, true, false, cond, eqb, ◌⊎◌, List, length, get_or, Some, None, Option, Ok, Err, sym, refl, ap, ◌∙◌, inl, inr, arith}
+-- Rows made fresh one after another. Assumes nothing.
+use Rattle.std.proofs.Common.{◌≡◌, ℕ, ◌<◌, ◌≤◌, false, eqb, ◌⊎◌, List, length, get_or, Some, None, Option, sym, ap, ◌∙◌, inl, inr, arith}
 use mathlib.Core.Path.{fun_ext}
 use Rattle.std.proofs.lemmas.List.{get_or_past}
-use Rattle.std.proofs.lemmas.Bool.{cases_eq, cases_lt, eqb-true, cond-true, cond-false, eq-eqb, ne_eqb}
-use Rattle.forest.specs.declared.Edge.{Edge}
+use Rattle.std.proofs.lemmas.Bool.{cases_eq, cases_lt, cond-true, cond-false, eq-eqb, ne_eqb}
 use Rattle.walk_laws.specs.Walk as laws
 use Rattle.walk.specs.declared.row.Row.{Row}
-use Rattle.walk.specs.declared.table.Unfit.TheVariants as unfit
 use Rattle.walk.specs.Marks.{idle, seen, marks, directs, fresh_mark, fresh_row}
 use Rattle.walk.specs.Tables.{Renewed}
-use Rattle.walk.specs.Walked.{Ready, fitting}
-
--- A walk that is not refused.
-fitting_cases : (a b : Bool) (x : Unit {0}) → Ok x ≡ cond a (cond b (Ok tt) (Err unfit.Rows)) (Err unfit.NoTree) → (a ≡ true) × (b ≡ true)
-fitting_cases true true x h = (refl, refl)
-fitting_cases true false x h = absurd (cc)
-fitting_cases false b x h = absurd (cc)
-
-pub fitting_ok : (n : ℕ) (E : List Edge) (rows : List Row) (x : Unit {0}) → Ok x ≡ fitting n E rows → (length E + 1 ≡ n) × (length rows ≡ n)
-fitting_ok n E rows x h =
-    let t = fitting_cases (eqb (length E + 1) n) (eqb (length rows) n) x h in
-    (eqb-true (length E + 1) n t.0, eqb-true (length rows) n t.1)
+use Rattle.walk.specs.Walked.{Ready}
 
 -- The rows below i are fresh, and the others are as they were.
 pub record Renewing (rows rows' : List Row) (i : ℕ) : Type 0 where

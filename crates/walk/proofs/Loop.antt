@@ -2,6 +2,7 @@
 use Rattle.std.proofs.Common.{◌≡◌, ℕ, ◌+◌, ◌*◌, ◌<◌, ◌≤◌, List, length, get_or, sym, refl, ap, ◌∙◌, subst, arith}
 use mathlib.Core.Path.{fun_ext}
 use Rattle.std.proofs.lemmas.List.{get_or_read}
+use Rattle.seed.specs.declared.store.TheConstants.{NODES}
 use Rattle.forest.specs.declared.Edge.{Edge}
 use Rattle.forest.specs.Edges.{Sound}
 use Rattle.forest.specs.Growth.{Planted, Least, Nothing}
@@ -15,24 +16,24 @@ use Rattle.walk_laws.proofs.Seeing.{planted_seen}
 use Rattle.walk_laws.proofs.Looping.{Place, Rise, down_below, down_other, down_fits, down_room, place_down, climbs, place_start, place_end}
 use Rattle.walk.specs.declared.row.Row.{Row}
 use Rattle.walk.specs.Limits.{Low, highest}
-use Rattle.walk.specs.Marks.{idle, marks, froms, gaps, nexts, directs, rules_of, Places, Gone}
+use Rattle.walk.specs.Marks.{idle, marks, froms, from_lengths, nexts, directs, rules_of, Places, Gone}
 use Rattle.walk.specs.Walked.{Ready, Walked}
 
 pub record Looping (p q pins n : ℕ) (E : List Edge) (first rows : List Row) (v step : ℕ) : Type 0 where
   pub planted : Planted n E
-  pub place : Place (rules_of p q pins first) n E planted.rank (2 * size_of planted.forest) highest (laws.walk (rules_of p q pins first) 0 planted.forest laws.start) (froms rows) (gaps rows) (nexts rows) (marks rows) v step
+  pub place : Place (rules_of p q pins first) n E planted.rank (2 * size_of planted.forest) highest (laws.walk (rules_of p q pins first) 0 planted.forest laws.start) (froms rows) (from_lengths rows) (nexts rows) (marks rows) v step
   pub count : length rows ≡ n
   pub direct : (x : ℕ) → directs rows x ≡ directs first x
 
-pub loop_start : (p q pins n : ℕ) (E : List Edge) (rows : List Row) → Sound n E → n ≤ 512 → Planted n E → Ready n rows → Looping p q pins n E rows rows 0 0
+pub loop_start : (p q pins n : ℕ) (E : List Edge) (rows : List Row) → Sound n E → n ≤ NODES → Planted n E → Ready n rows → Looping p q pins n E rows rows 0 0
 loop_start p q pins n E rows s few T ready =
     let P : laws.Table → Type 0 =
-    λ S. Place (rules_of p q pins rows) n E T.rank (2 * size_of T.forest) highest (laws.walk (rules_of p q pins rows) 0 T.forest laws.start) (froms rows) (gaps rows) (nexts rows) S 0 0 in
+    λ S. Place (rules_of p q pins rows) n E T.rank (2 * size_of T.forest) highest (laws.walk (rules_of p q pins rows) 0 T.forest laws.start) (froms rows) (from_lengths rows) (nexts rows) S 0 0 in
     record {
       planted = T;
       place =
           subst P (sym ready.fresh)
-          (place_start (rules_of p q pins rows) n E T highest (froms rows) (gaps rows) (nexts rows) ready.from ready.next (planted_fits n E s T few));
+          (place_start (rules_of p q pins rows) n E T highest (froms rows) (from_lengths rows) (nexts rows) ready.from ready.next (planted_fits n E s T few));
       count = ready.count;
       direct = λ x. refl;
     }
@@ -64,7 +65,7 @@ module _ {p q pins n : ℕ} {E : List Edge} {first rows : List Row} {v step : �
 
   pub loop_end : step ≡ 2 * size_of L.planted.forest → Walked (rules_of p q pins first) n E (marks rows)
   loop_end h =
-      let A : ℕ → Type 0 = λ k. Place R n E L.planted.rank total highest final (froms rows) (gaps rows) (nexts rows) (marks rows) v k in
+      let A : ℕ → Type 0 = λ k. Place R n E L.planted.rank total highest final (froms rows) (from_lengths rows) (nexts rows) (marks rows) v k in
       let is : marks rows ≡ final = place_end pos acc (subst A h L.place) in
       let T : laws.Table → Type 0 = λ S. Guarantee R n L.planted.forest S in
       record {
@@ -99,7 +100,7 @@ module _ {p q pins n : ℕ} {E : List Edge} {first rows : List Row} {v step : �
         let is : marks rows' ≡ laws.enter R u (laws.relax v u l (marks rows)) =
         g.marked ∙ ap (λ d. laws.enter (record { p = p; q = q; pins = pins; direct = d }) u (laws.relax v u l (marks rows))) D in
         let T : laws.Table → Type 0 =
-        λ S. Place R n E L.planted.rank total highest final (froms rows') (gaps rows') (nexts rows') S u (step + 1) in
+        λ S. Place R n E L.planted.rank total highest final (froms rows') (from_lengths rows') (nexts rows') S u (step + 1) in
         record {
           planted = L.planted;
           place =
@@ -107,47 +108,47 @@ module _ {p q pins n : ℕ} {E : List Edge} {first rows : List Row} {v step : �
               (place_down pos acc L.place (least f)
               (record {
                 from_new = g.from_new;
-                gap_new = g.gap_new;
+                from_length_new = g.from_length_new;
                 next_new = g.next_new;
                 next_more = g.next_more;
                 from_old = g.from_old;
-                gap_old = g.gap_old;
+                from_length_old = g.from_length_old;
                 next_old = g.next_old;
               }));
           count = g.count ∙ L.count;
           direct = λ z. g.direct z ∙ L.direct z;
         }
 
-    rise : Nothing E v x.from x.next → step < total → Rise R n E L.planted.rank total highest final (froms rows) (gaps rows) (nexts rows) (marks rows) v step
+    rise : Nothing E v x.from x.next → step < total → Rise R n E L.planted.rank total highest final (froms rows) (from_lengths rows) (nexts rows) (marks rows) v step
     rise none early =
         let P : Row → Type 0 = λ z. Nothing E v z.from z.next in
         climbs pos acc L.place (subst P at none) early
 
-    pub loop_rise : Nothing E v x.from x.next → step < 2 * size_of L.planted.forest → Up rows v x.from x.gap
+    pub loop_rise : Nothing E v x.from x.next → step < 2 * size_of L.planted.forest → Up rows v x.from x.from_length
     loop_rise none early =
         let r = rise none early in
         record {
           far = omega (arith, r.below, L.count, ap (λ z. z.from) at);
-          told = λ e h. omega (arith, r.fits e h, ap (λ z. z.gap) at);
+          told = λ e h. omega (arith, r.fits e h, ap (λ z. z.from_length) at);
         }
 
     pub loop_up : Nothing E v x.from x.next → step < 2 * size_of L.planted.forest → (rows' : List Row) →
-        marks rows' ≡ laws.relax v x.from x.gap (marks rows) → Places rows rows' →
+        marks rows' ≡ laws.relax v x.from x.from_length (marks rows) → Places rows rows' →
         Looping p q pins n E first rows' x.from (step + 1)
     loop_up none early rows' is same =
-        let S : Row → laws.Table = λ z. laws.relax v z.from z.gap (marks rows) in
+        let S : Row → laws.Table = λ z. laws.relax v z.from z.from_length (marks rows) in
         let A : (ℕ → ℕ) → Type 0 =
-        λ f. Place R n E L.planted.rank total highest final f (gaps rows) (nexts rows) (S (get_or rows v idle)) (froms rows v) (step + 1) in
+        λ f. Place R n E L.planted.rank total highest final f (from_lengths rows) (nexts rows) (S (get_or rows v idle)) (froms rows v) (step + 1) in
         let B : (ℕ → ℕ) → Type 0 =
         λ f. Place R n E L.planted.rank total highest final (froms rows') f (nexts rows) (S (get_or rows v idle)) (froms rows v) (step + 1) in
         let C : (ℕ → ℕ) → Type 0 =
-        λ f. Place R n E L.planted.rank total highest final (froms rows') (gaps rows') f (S (get_or rows v idle)) (froms rows v) (step + 1) in
+        λ f. Place R n E L.planted.rank total highest final (froms rows') (from_lengths rows') f (S (get_or rows v idle)) (froms rows v) (step + 1) in
         let D : Row → Type 0 =
-        λ z. Place R n E L.planted.rank total highest final (froms rows') (gaps rows') (nexts rows') (S z) z.from (step + 1) in
+        λ z. Place R n E L.planted.rank total highest final (froms rows') (from_lengths rows') (nexts rows') (S z) z.from (step + 1) in
         let T : laws.Table → Type 0 =
-        λ t. Place R n E L.planted.rank total highest final (froms rows') (gaps rows') (nexts rows') t x.from (step + 1) in
+        λ t. Place R n E L.planted.rank total highest final (froms rows') (from_lengths rows') (nexts rows') t x.from (step + 1) in
         let F : froms rows ≡ froms rows' = fun_ext (λ z. sym (same.from z)) in
-        let G : gaps rows ≡ gaps rows' = fun_ext (λ z. sym (same.gap z)) in
+        let G : from_lengths rows ≡ from_lengths rows' = fun_ext (λ z. sym (same.from_length z)) in
         let N : nexts rows ≡ nexts rows' = fun_ext (λ z. sym (same.next z)) in
         record {
           planted = L.planted;

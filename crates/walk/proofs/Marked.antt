@@ -53,7 +53,7 @@ part_set f rows v r h s x = go (cases_eq x v)
 
 -- A row with the next child to try.
 abbrev pub stepped : Row → ℕ → Row
-stepped r k = record { mark = r.mark; direct = r.direct; from = r.from; gap = r.gap; next = k }
+stepped r k = record { mark = r.mark; direct = r.direct; from = r.from; from_length = r.from_length; next = k }
 
 -- The rows once u was relaxed from v, its row b read and put back with the mark m, and the row a of v read then.
 module _ (p q pins v u l : ℕ) (rows rows1 : List Row) (m : Mark) (a b : Row) (hv : v < length rows) (hu : u < length rows) (ne : u ≡ v → ⊥) (one : marks rows1 ≡ laws.relax v u l (marks rows)) (same : Places rows rows1) (to : b ≡ get_or rows1 u idle) (at : a ≡ get_or (set rows1 u (opened m b.direct v l)) v idle) where
@@ -91,15 +91,15 @@ module _ (p q pins v u l : ℕ) (rows rows1 : List Row) (m : Mark) (a b : Row) (
             λ x. part_set (λ z. z.direct) rows2 v (stepped a (u + 1)) hv2 (ap (λ z. z.direct) at) x ∙
             part_set (λ z. z.direct) rows1 u row hu1 (ap (λ z. z.direct) to) x ∙ same.direct x;
         from_new = part_set (λ z. z.from) rows2 v (stepped a (u + 1)) hv2 (ap (λ z. z.from) at) u ∙ ap (λ z. z.from) new;
-        gap_new = part_set (λ z. z.gap) rows2 v (stepped a (u + 1)) hv2 (ap (λ z. z.gap) at) u ∙ ap (λ z. z.gap) new;
+        from_length_new = part_set (λ z. z.from_length) rows2 v (stepped a (u + 1)) hv2 (ap (λ z. z.from_length) at) u ∙ ap (λ z. z.from_length) new;
         next_new = ap (λ z. z.next) (get_or-set_other rows2 v u (stepped a (u + 1)) idle ne) ∙ ap (λ z. z.next) new;
         next_more = ap (λ z. z.next) (get_or-set_same rows2 v (stepped a (u + 1)) idle hv2);
         from_old =
             λ x h. part_set (λ z. z.from) rows2 v (stepped a (u + 1)) hv2 (ap (λ z. z.from) at) x ∙
             ap (λ z. z.from) (get_or-set_other rows1 u x row idle h) ∙ same.from x;
-        gap_old =
-            λ x h. part_set (λ z. z.gap) rows2 v (stepped a (u + 1)) hv2 (ap (λ z. z.gap) at) x ∙
-            ap (λ z. z.gap) (get_or-set_other rows1 u x row idle h) ∙ same.gap x;
+        from_length_old =
+            λ x h. part_set (λ z. z.from_length) rows2 v (stepped a (u + 1)) hv2 (ap (λ z. z.from_length) at) x ∙
+            ap (λ z. z.from_length) (get_or-set_other rows1 u x row idle h) ∙ same.from_length x;
         next_old =
             λ x h k. ap (λ z. z.next) (get_or-set_other rows2 v x (stepped a (u + 1)) idle k) ∙
             ap (λ z. z.next) (get_or-set_other rows1 u x row idle h) ∙ same.next x;

@@ -1,17 +1,21 @@
 -- The allowances that a walk takes, and how large estimates get. Assumes nothing.
-use Rattle.std.specs.Prelude.{◌≡◌, ℕ, ◌+◌, ◌≤◌, List, ◌∷◌, ◌++◌, Some, Option}
+use Rattle.std.specs.Prelude.{◌≡◌, ℕ, ◌+◌, ◌-◌, ◌*◌, ◌≤◌, List, ◌∷◌, ◌++◌, Some, Option}
 use Rattle.std.specs.Fmt.{decimal}
+use Rattle.space.specs.declared.TheConstants.{LONGEST}
+use Rattle.seed.specs.declared.store.TheConstants.{NODES}
+use Rattle.walk.specs.declared.allowance.TheConstants.{ALLOWANCE_LIMIT}
 
+-- What p and q of an allowance are.
 abbrev pub Within : (p q : ℕ) → Type 0
-Within p q = (p ≤ 1000) × (1 ≤ q) × (q ≤ 1000)
+Within p q = (p ≤ ALLOWANCE_LIMIT) × (1 ≤ q) × (q ≤ ALLOWANCE_LIMIT)
 
 -- The two numbers in decimal, with a slash (47) between them.
 abbrev pub ratio_text : (p q : ℕ) → List ℕ
 ratio_text p q = decimal p ++ 47 ∷ decimal q
 
--- The greatest estimate: a walk goes twice over each edge, of which there are at most 511, each at most 100,000,000 long.
+-- The greatest estimate: a walk goes twice over each edge, of which there are fewer than NODES, each at most LONGEST long.
 abbrev pub highest : ℕ
-highest = 102200000000
+highest = 2 * ((NODES - 1) * LONGEST)
 
 -- The estimate, if there is one, is no greater even over a further edge of length l.
 abbrev pub Low : (est : Option ℕ) → (l : ℕ) → Type 0

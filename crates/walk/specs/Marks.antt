@@ -14,7 +14,7 @@ fresh_mark k = record { est = cond (k == 0) (Some 0) None; parent = 0; edge = 0;
 
 -- The row of the node k before the walk.
 abbrev pub fresh_row : (k direct : ℕ) → Row
-fresh_row k direct = record { mark = fresh_mark k; direct = direct; from = 0; gap = 0; next = 0 }
+fresh_row k direct = record { mark = fresh_mark k; direct = direct; from = 0; from_length = 0; next = 0 }
 
 -- What stands past the rows: a node that the walk has not reached.
 abbrev pub idle : Row
@@ -23,7 +23,7 @@ idle =
       mark = record { est = None; parent = 0; edge = 0; broken = false };
       direct = 0;
       from = 0;
-      gap = 0;
+      from_length = 0;
       next = 0;
     }
 
@@ -35,8 +35,8 @@ marks rows v = seen (slice_index_or rows v idle).mark
 abbrev pub froms : List Row → ℕ → ℕ
 froms rows v = (slice_index_or rows v idle).from
 
-abbrev pub gaps : List Row → ℕ → ℕ
-gaps rows v = (slice_index_or rows v idle).gap
+abbrev pub from_lengths : List Row → ℕ → ℕ
+from_lengths rows v = (slice_index_or rows v idle).from_length
 
 abbrev pub nexts : List Row → ℕ → ℕ
 nexts rows v = (slice_index_or rows v idle).next
@@ -54,7 +54,7 @@ rules_by R rows = rules_of R.allowance.p R.allowance.q R.pins rows
 pub record Places (rows rows' : List Row) : Type 0 where
   pub count : length rows' ≡ length rows
   pub from : (x : ℕ) → froms rows' x ≡ froms rows x
-  pub gap : (x : ℕ) → gaps rows' x ≡ gaps rows x
+  pub from_length : (x : ℕ) → from_lengths rows' x ≡ from_lengths rows x
   pub next : (x : ℕ) → nexts rows' x ≡ nexts rows x
   pub direct : (x : ℕ) → directs rows' x ≡ directs rows x
 
@@ -66,7 +66,7 @@ entered_by sink p q direct (Some e) m =
 
 -- The row of a node that was entered from the node v, over an edge of length l: none of its children was tried.
 abbrev pub opened : Mark → (direct v l : ℕ) → Row
-opened m direct v l = record { mark = m; direct = direct; from = v; gap = l; next = 0 }
+opened m direct v l = record { mark = m; direct = direct; from = v; from_length = l; next = 0 }
 
 -- The rows once the walk has gone down from v to u, over an edge of length l.
 pub record Gone (p q pins v u l : ℕ) (rows rows' : List Row) : Type 0 where
@@ -74,9 +74,9 @@ pub record Gone (p q pins v u l : ℕ) (rows rows' : List Row) : Type 0 where
   pub count : length rows' ≡ length rows
   pub direct : (x : ℕ) → directs rows' x ≡ directs rows x
   pub from_new : froms rows' u ≡ v
-  pub gap_new : gaps rows' u ≡ l
+  pub from_length_new : from_lengths rows' u ≡ l
   pub next_new : nexts rows' u ≡ 0
   pub next_more : nexts rows' v ≡ u + 1
   pub from_old : (x : ℕ) → (x ≢ u) → froms rows' x ≡ froms rows x
-  pub gap_old : (x : ℕ) → (x ≢ u) → gaps rows' x ≡ gaps rows x
+  pub from_length_old : (x : ℕ) → (x ≢ u) → from_lengths rows' x ≡ from_lengths rows x
   pub next_old : (x : ℕ) → (x ≢ u) → (x ≢ v) → nexts rows' x ≡ nexts rows x

@@ -1,5 +1,7 @@
 -- What a table holds, what its calls answer, and which rows are breakpoints. Assumes nothing.
 use Rattle.std.specs.Prelude.{◌≡◌, ℕ, ◌<◌, ◌≤◌, cond, ◌⊎◌, List, [], ◌∷◌, ◌++◌, length, get_or, Some, None, vec_items, Option, nat_lt, slice_index_or}
+use Rattle.space.specs.declared.TheConstants.{LONGEST}
+use Rattle.seed.specs.declared.store.TheConstants.{NODES}
 use Rattle.walk_laws.specs.Walk as laws
 use Rattle.walk.specs.declared.row.Mark.{Mark}
 use Rattle.walk.specs.declared.row.Row.{Row}
@@ -11,9 +13,9 @@ rows_of t = vec_items t.rows
 
 -- The table t, asked for one more row with the direct distance d, answers r and is u then.
 abbrev pub Added : (t : Table) (d : ℕ) → Option ℕ → (u : Table) → Type 0
-Added t d None u = ((512 ≤ length (rows_of t)) ⊎ (100000000 < d)) × (u ≡ t)
+Added t d None u = ((NODES ≤ length (rows_of t)) ⊎ (LONGEST < d)) × (u ≡ t)
 Added t d (Some k) u =
-    (length (rows_of t) < 512) × (d ≤ 100000000) × (k ≡ length (rows_of t)) × (rows_of u ≡ rows_of t ++ fresh_row k d ∷ [])
+    (length (rows_of t) < NODES) × (d ≤ LONGEST) × (k ≡ length (rows_of t)) × (rows_of u ≡ rows_of t ++ fresh_row k d ∷ [])
 
 -- Every row is fresh, with the direct distance that it had.
 pub record Renewed (rows rows' : List Row) : Type 0 where

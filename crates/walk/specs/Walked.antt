@@ -1,13 +1,15 @@
 -- What a walk over a seed leaves in the rows. Assumes nothing.
-use Rattle.std.specs.Prelude.{◌≡◌, ℕ, ◌+◌, cond, ◌==◌, List, length, Ok, Err, Result}
+use Rattle.std.specs.Prelude.{◌≡◌, ℕ, List, length}
 use Rattle.forest.specs.declared.Edge.{Edge}
 use Rattle.forest.specs.Growth.{Planted}
 use Rattle.walk_laws.specs.Walk as laws
 use Rattle.walk_laws.specs.Promise.{Guarantee, SeenFrom}
 use Rattle.walk.specs.declared.row.Row.{Row}
-use Rattle.walk.specs.declared.table.Unfit.{Unfit}
-use Rattle.walk.specs.declared.table.Unfit.TheVariants as unfit
-use Rattle.walk.specs.Marks.{marks, froms, nexts, directs}
+use Rattle.seed.specs.declared.store.Seed.{Seed}
+use Rattle.walk.specs.declared.allowance.Allowance.{Allowance}
+use Rattle.walk.specs.declared.table.Table.{Table}
+use Rattle.walk.specs.Marks.{marks, froms, nexts, directs, rules_of}
+use Rattle.walk.specs.Tables.{rows_of}
 
 -- Rows that no walk has touched yet, one for each of n nodes.
 pub record Ready (n : ℕ) (rows : List Row) : Type 0 where
@@ -23,12 +25,15 @@ pub record Walked (R : laws.Rules) (n : ℕ) (E : List Edge) (S : laws.Table) : 
   pub is : S ≡ laws.walk R 0 planted.forest laws.start
   pub keeps : Guarantee R n planted.forest S
 
+-- The rules of a walk with the direct distances of the table.
+abbrev pub rules_in : Allowance → (pins : ℕ) → Table → laws.Rules
+rules_in a pins t = rules_of a.p a.q pins (rows_of t)
+
+-- The table t holds what the walk over the seed s gives.
+abbrev pub WalkedOver : laws.Rules → (s : Seed) → (t : Table) → Type 0
+WalkedOver R s t = Walked R s.nodes s.edges (marks (rows_of t))
+
 -- The rows are as many as before, and their direct distances are what they were.
 pub record Kept (rows rows' : List Row) : Type 0 where
   pub count : length rows' ≡ length rows
   pub direct : (k : ℕ) → directs rows' k ≡ directs rows k
-
--- Whether a walk over n nodes and the edges E is done in these rows: it needs a seed that is a tree, and then a row for each of its nodes.
-abbrev pub fitting : (n : ℕ) → List Edge → List Row → Result (Unit {0}) Unfit
-fitting n E rows =
-    cond (length E + 1 == n) (cond (length rows == n) (Ok tt) (Err unfit.Rows)) (Err unfit.NoTree)

@@ -1,10 +1,14 @@
 ghost use Rattle.std.specs.Prelude.{◌≡◌, ◌+◌, ◌*◌, ◌≤◌, MatchOption, Some, nat_lt};
+ghost use Rattle.space.specs.declared.TheConstants.{LONGEST};
 ghost use Rattle.walk.specs.Limits.{Within, highest, ratio_text};
 
 use std::fmt;
 
+/// The most that p and q of an allowance can be.
+pub const ALLOWANCE_LIMIT: u64 = 1000;
+
 /// How much longer than its direct distance D a sink's way may be: q times the way is at most p + q times D.
-/// p is at most 1,000, and q is from 1 to 1,000.
+/// p is at most `ALLOWANCE_LIMIT`, and q is from 1 to `ALLOWANCE_LIMIT`.
 #[derive(Clone, Copy, Debug, PartialEq, Eq)]
 pub struct Allowance {
     p: u64,
@@ -23,24 +27,25 @@ impl fmt::Display for Allowance {
 }
 
 impl Allowance {
-    /// The allowance p/q; `None` where p is above 1,000, q is above 1,000 or q is 0.
+    /// The allowance p/q; `None` where p or q is above `ALLOWANCE_LIMIT`, or q is 0.
     pub fn new(p: u64, q: u64) -> Option<Allowance>
         ensures { MatchOption result (Within p q → ⊥) (λ a. Within p q × (a.p ≡ p) × (a.q ≡ q)) }
     {
-        // Kept: `then(|| ..)` proves only with clauses on its closure that say the test again.
-        if p <= 1000 && 0 < q && q <= 1000 {
+        if p <= ALLOWANCE_LIMIT && 0 < q && q <= ALLOWANCE_LIMIT {
             Some(Allowance { p, q })
         } else {
             None
         }
     }
 
+    /// The p of p/q.
     pub fn p(self) -> u64
         ensures { result ≡ self.p }
     {
         self.p
     }
 
+    /// The q of p/q, at least 1.
     pub fn q(self) -> u64
         ensures { result ≡ self.q }
     {
@@ -49,7 +54,8 @@ impl Allowance {
 
     /// Whether the estimate `e` of a sink is above what is allowed at its direct distance.
     pub(crate) fn exceeded(self, direct: u64, e: u64) -> bool
-        requires { (direct ≤ 100000000) × (e ≤ highest) }
+        requires near { direct ≤ LONGEST }
+        requires low { e ≤ highest }
         ensures { result ≡ nat_lt ((self.p + self.q) * direct) (self.q * e) }
     {
         let Allowance { p, q } = self;

@@ -6,7 +6,8 @@ mod allowance;
 mod row;
 mod rules;
 mod table;
+mod walking;
 
-pub use allowance::Allowance;
+pub use allowance::{ALLOWANCE_LIMIT, Allowance};
 pub use row::Mark;
-pub use table::{Table, Unfit};
+pub use table::{Table, WalkFault};

@@ -1,4 +1,5 @@
 ghost use Rattle.std.specs.Prelude.{◌≡◌, ◌≤◌, ◌&&◌, nat_lt};
+ghost use Rattle.space.specs.declared.TheConstants.{LONGEST};
 ghost use Rattle.walk_laws.specs.Walk.{offered};
 ghost use Rattle.walk.specs.Limits.{Low};
 ghost use Rattle.walk.specs.Marks.{seen, entered_by, fresh_mark, fresh_row, opened};
@@ -9,25 +10,24 @@ use crate::rules::Rules;
 /// a breakpoint. The driver, and a node without an estimate, have the parent 0 and the edge 0.
 #[derive(Clone, Copy, Debug, PartialEq, Eq, Default, Drop)]
 pub struct Mark {
+    /// The length of the way by which the walk reached the node; `None` where it has not.
     pub est: Option<u64>,
-    // Kept: nodes are numbered from 0 for users, and all memory is reserved once; boxes would ask for memory node by node.
-    // Kept: an `Option` would have to be 0 again where users are told it: the driver, and a node without an estimate, have the parent 0.
+    /// The neighbour on which the node hangs.
     pub parent: usize,
+    /// The length of the edge to the parent.
     pub edge: u64,
-    // Kept: whether a node broke off says nothing of the values beside it, which later offers still change.
+    /// Whether the node broke off. Later offers still change the values beside it.
     pub broken: bool,
 }
 
-/// A node's mark and direct distance, and the walk's place there: where it came from, over which length, and the next child to try.
-// Kept: the walk's place lies in the rows, so that it needs no stack and no memory that grows with the net. That `direct` is at most `LONGEST` is asked by
-// each function that multiplies it: the definitions make rows of any numbers (`fresh_row`), which a fact of the type would not let them.
+/// A node's mark and direct distance, and the walk's place there: where it came from, over an edge of which length, and the next child to
+/// try. The place lies in the rows, so that the walk needs no stack. The driver counts as entered from itself.
 #[derive(Clone, Copy, Debug, PartialEq, Eq, Drop)]
 pub(crate) struct Row {
     pub(crate) mark: Mark,
     pub(crate) direct: u64,
-    // Kept: an `Option` would say no more: the driver counts as entered from itself, and any other node is entered before this is read.
     pub(crate) from: usize,
-    pub(crate) gap: u64,
+    pub(crate) from_length: u64,
     pub(crate) next: usize,
 }
 
@@ -62,9 +62,10 @@ impl Mark {
 
     /// The mark once its node v, at this direct distance, is entered.
     pub(crate) fn entered(self, v: usize, direct: u64, rules: Rules) -> Mark
-        requires near { direct ≤ 100000000 }
+        requires near { direct ≤ LONGEST }
         requires room { Low self.est 0 }
-        ensures { seen result ≡ entered_by (nat_lt 0 v && nat_lt v rules.pins) rules.allowance.p rules.allowance.q direct self.est (seen self) }
+        ensures { seen result ≡ entered_by (nat_lt 0 v && nat_lt v rules.pins)
+            rules.allowance.p rules.allowance.q direct self.est (seen self) }
     {
         match self.est {
             Some(e) if rules.breaks(v, direct, e) => Mark {
@@ -86,21 +87,22 @@ impl Row {
             mark: Mark::fresh(k),
             direct,
             from: 0,
-            gap: 0,
+            from_length: 0,
             next: 0,
         }
     }
 
-    /// The walk enters the row's node v from the node `from`, over an edge of length `gap`.
-    pub(crate) fn enter(&mut self, v: usize, from: usize, gap: u64, rules: Rules)
-        requires near { self.old.direct ≤ 100000000 }
+    /// The walk enters the row's node v from the node `from`, over an edge of length `from_length`.
+    pub(crate) fn enter(&mut self, v: usize, from: usize, from_length: u64, rules: Rules)
+        requires near { self.old.direct ≤ LONGEST }
         requires room { Low self.old.mark.est 0 }
-        ensures mark { seen self.new.mark ≡ entered_by (nat_lt 0 v && nat_lt v rules.pins) rules.allowance.p rules.allowance.q self.old.direct self.old.mark.est (seen self.old.mark) }
-        ensures place { self.new ≡ opened self.new.mark self.old.direct from gap }
+        ensures mark { seen self.new.mark ≡ entered_by (nat_lt 0 v && nat_lt v rules.pins)
+            rules.allowance.p rules.allowance.q self.old.direct self.old.mark.est (seen self.old.mark) }
+        ensures place { self.new ≡ opened self.new.mark self.old.direct from from_length }
     {
         self.mark = self.mark.entered(v, self.direct, rules);
         self.from = from;
-        self.gap = gap;
+        self.from_length = from_length;
         self.next = 0;
     }
 }

@@ -1,4 +1,5 @@
 ghost use Rattle.std.specs.Prelude.{◌≡◌, ◌+◌, ◌*◌, ◌≤◌, ◌&&◌, nat_lt};
+ghost use Rattle.space.specs.declared.TheConstants.{LONGEST};
 ghost use Rattle.walk.specs.Limits.{highest};
 
 use crate::allowance::Allowance;
@@ -20,8 +21,10 @@ impl Rules {
 
     /// Whether the node v is a sink, and the estimate `e` is above what is allowed at its direct distance.
     pub(crate) fn breaks(self, v: usize, direct: u64, e: u64) -> bool
-        requires { (direct ≤ 100000000) × (e ≤ highest) }
-        ensures { result ≡ (nat_lt 0 v && nat_lt v self.pins && nat_lt ((self.allowance.p + self.allowance.q) * direct) (self.allowance.q * e)) }
+        requires near { direct ≤ LONGEST }
+        requires low { e ≤ highest }
+        ensures { result ≡ (nat_lt 0 v && nat_lt v self.pins
+            && nat_lt ((self.allowance.p + self.allowance.q) * direct) (self.allowance.q * e)) }
     {
         self.is_sink(v) && self.allowance.exceeded(direct, e)
     }

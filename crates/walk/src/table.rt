@@ -1,29 +1,84 @@
-ghost use Rattle.std.specs.Prelude.{ℕ, ◌≤◌, length, vec_capacity};
-ghost use Rattle.walk.specs.Marks.{directs};
+ghost use Rattle.std.specs.Prelude.{◌≡◌, ℕ, ◌≤◌, [], length, vec_capacity, IfOk};
+ghost use Rattle.space.specs.declared.TheConstants.{LONGEST};
+ghost use Rattle.seed.specs.declared.store.TheConstants.{NODES};
+ghost use Rattle.walk_laws.specs.Promise.{sum_to};
+ghost use Rattle.walk.specs.Marks.{directs, marks};
 
-use crate::row::Row;
-
-mod filling;
-mod fitting;
-mod reading;
-mod starting;
-mod stepping;
-mod walking;
+use crate::row::{Mark, Row};
+use seed::{LONGEST, NODES};
+use std::alloc::{AllocError, Global};
+use thiserror::Error;
 
 /// A row for each node, numbered from 0: its direct distance from the driver, and what the walk knows of it.
 #[derive(Drop)]
 pub struct Table {
-    rows: Vec<Row>,
-    ghost room: { 512 ≤ vec_capacity rows },
-    ghost few: { length rows.items ≤ 512 },
-    ghost near: { (k : ℕ) → directs rows.items k ≤ 100000000 },
+    pub(crate) rows: Vec<Row>,
+    ghost room: { NODES ≤ vec_capacity rows },
+    ghost few: { length rows.items ≤ NODES },
+    ghost near: { (k : ℕ) → directs rows.items k ≤ LONGEST },
 }
 
-/// Why a seed is not walked.
-#[derive(Clone, Copy, Debug, PartialEq, Eq)]
-pub enum Unfit {
-    /// The seed is no tree.
-    NoTree,
-    /// There is not one row for each of the seed's nodes.
-    Rows,
+/// Why a seed is not walked: there is not one row for each of its nodes.
+#[derive(Clone, Copy, Debug, Drop, PartialEq, Eq, Error)]
+#[error("there is not one row for each node of the seed")]
+pub struct WalkFault;
+
+impl Table {
+    ghost use Rattle.walk.specs.Tables.{Added, break_at, direct_at, mark_at, rows_of};
+
+    /// A table without rows. All memory that it will ever use is reserved here.
+    pub fn new(heap: Global) -> Result<Table, AllocError>
+        ensures { IfOk result (λ t. rows_of t ≡ []) }
+    {
+        let rows = Vec::with_capacity(heap, NODES)?;
+        Ok(Table { rows })
+    }
+
+    /// Drops all rows.
+    pub fn clear(&mut self)
+        ensures { rows_of self.new ≡ [] }
+    {
+        self.rows.clear();
+    }
+
+    /// Adds the row of one more node and answers its number; `None`, with the table as it was, where there are `NODES` rows or the
+    /// direct distance is above `LONGEST`.
+    pub fn add(&mut self, direct: u64) -> Option<usize>
+        ensures { Added self.old direct result self.new }
+    {
+        let node = self.len();
+        if node >= NODES || direct > LONGEST {
+            return None;
+        }
+        self.rows.push_reserved(Row::fresh(node, direct));
+        Some(node)
+    }
+
+    /// How many rows there are.
+    pub fn len(&self) -> usize
+        ensures { result ≡ length (rows_of self.now) }
+    {
+        self.rows.len()
+    }
+
+    /// The mark of the row k; `None` where there is no such row.
+    pub fn mark(&self, k: usize) -> Option<Mark>
+        ensures { result ≡ mark_at (rows_of self.now) k }
+    {
+        self.rows.get(k).map(|row| row.mark)
+    }
+
+    /// The direct distance of the row k; `None` where there is no such row.
+    pub fn direct(&self, k: usize) -> Option<u64>
+        ensures { result ≡ direct_at (rows_of self.now) k }
+    {
+        self.rows.get(k).map(|row| row.direct)
+    }
+
+    /// How many rows are marked as breakpoints. Costs a pass over the rows.
+    pub fn breakpoints(&self) -> usize
+        ensures { result ≡ sum_to (break_at (marks (rows_of self.now))) (length (rows_of self.now)) }
+    {
+        self.rows.iter().filter(|row| row.mark.broken).count()
+    }
 }

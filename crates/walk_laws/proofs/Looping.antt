@@ -57,18 +57,18 @@ grows_none (bare h) k = refl
 grows_none (grown g b o) k = absurd (k _ _ g.near g.from g.other)
 
 -- A node u on the way back: it was entered from v, a node below n, over the length l, and `o` is what v has still to take.
-abbrev pub Open : (n : ℕ) → List Edge → (from gap next : ℕ → ℕ) → (u v l : ℕ) → Forest → Type 0
-Open n E from gap next u v l o = (from u ≡ v) × (gap u ≡ l) × (v < n) × Grows E v (from v) (next v) o
+abbrev pub Open : (n : ℕ) → List Edge → (from from_length next : ℕ → ℕ) → (u v l : ℕ) → Forest → Type 0
+Open n E from from_length next u v l o = (from u ≡ v) × (from_length u ≡ l) × (v < n) × Grows E v (from v) (next v) o
 
 -- The loop stands at v after `done` of `total` steps, and will end with the table `final`. No estimate and no offer is above `limit`.
-pub record Place (R : Rules) (n : ℕ) (E : List Edge) (rank : ℕ → ℕ) (total limit : ℕ) (final : Table) (from gap next : ℕ → ℕ) (S : Table) (v done : ℕ) : Type 0 where
+pub record Place (R : Rules) (n : ℕ) (E : List Edge) (rank : ℕ → ℕ) (total limit : ℕ) (final : Table) (from from_length next : ℕ → ℕ) (S : Table) (v done : ℕ) : Type 0 where
   pub left : Forest
   pub trail : Trail
   pub lo : ℕ
   pub mid : ℕ
   pub gone : ℕ
   pub grows : Grows E v (from v) (next v) left
-  pub along : Along (Open n E from gap next) v trail
+  pub along : Along (Open n E from from_length next) v trail
   pub before : rank v < lo
   pub ranked : Ranked n rank lo left mid
   pub placed : Placed n rank mid v trail n
@@ -79,24 +79,24 @@ pub record Place (R : Rules) (n : ℕ) (E : List Edge) (rank : ℕ → ℕ) (tot
   pub way : gone + (way_left trail + 2 * wire_of left) ≤ limit
 
 -- What a step down to u changes in the rows.
-pub record Descent (v u l : ℕ) (from gap next from' gap' next' : ℕ → ℕ) : Type 0 where
+pub record Descent (v u l : ℕ) (from from_length next from' from_length' next' : ℕ → ℕ) : Type 0 where
   pub from_new : from' u ≡ v
-  pub gap_new : gap' u ≡ l
+  pub from_length_new : from_length' u ≡ l
   pub next_new : next' u ≡ 0
   pub next_more : next' v ≡ u + 1
   pub from_old : (x : ℕ) → (x ≡ u → ⊥) → from' x ≡ from x
-  pub gap_old : (x : ℕ) → (x ≡ u → ⊥) → gap' x ≡ gap x
+  pub from_length_old : (x : ℕ) → (x ≡ u → ⊥) → from_length' x ≡ from_length x
   pub next_old : (x : ℕ) → (x ≡ u → ⊥) → (x ≡ v → ⊥) → next' x ≡ next x
 
 -- A step up from v.
-pub record Rise (R : Rules) (n : ℕ) (E : List Edge) (rank : ℕ → ℕ) (total limit : ℕ) (final : Table) (from gap next : ℕ → ℕ) (S : Table) (v done : ℕ) : Type 0 where
+pub record Rise (R : Rules) (n : ℕ) (E : List Edge) (rank : ℕ → ℕ) (total limit : ℕ) (final : Table) (from from_length next : ℕ → ℕ) (S : Table) (v done : ℕ) : Type 0 where
   pub below : from v < n
   pub other : from v ≡ v → ⊥
-  pub fits : (e : ℕ) → (S v).est ≡ Some e → e + gap v ≤ limit
-  pub place : Place R n E rank total limit final from gap next (relax v (from v) (gap v) S) (from v) (done + 1)
+  pub fits : (e : ℕ) → (S v).est ≡ Some e → e + from_length v ≤ limit
+  pub place : Place R n E rank total limit final from from_length next (relax v (from v) (from_length v) S) (from v) (done + 1)
 
 module _ {R : Rules} {n : ℕ} {E : List Edge} {rank : ℕ → ℕ} {total limit : ℕ} {final : Table} (q : 0 < R.q) (acc : Accepted n E) where
-  module _ {from gap next : ℕ → ℕ} {S : Table} {v done : ℕ} (P : Place R n E rank total limit final from gap next S v done) {u l : ℕ} (found : Least E v (from v) (next v) u l) where
+  module _ {from from_length next : ℕ → ℕ} {S : Table} {v done : ℕ} (P : Place R n E rank total limit final from from_length next S v done) {u l : ℕ} (found : Least E v (from v) (next v) u l) where
     next_kid : Next E v (from v) u l P.left
     next_kid = grows_next acc P.grows u l found
 
@@ -119,9 +119,9 @@ module _ {R : Rules} {n : ℕ} {E : List Edge} {rank : ℕ → ℕ} {total limit
     down_room e h =
         omega (arith, relax_bounded v u l P.gone S P.bounded u e h, P.way, ap (λ X. wire_of X) next_kid.is)
 
-    pub place_down : {from' gap' next' : ℕ → ℕ} → Descent v u l from gap next from' gap' next' →
-        Place R n E rank total limit final from' gap' next' (down R v u l S) u (done + 1)
-    place_down {from'} {gap'} {next'} D =
+    pub place_down : {from' from_length' next' : ℕ → ℕ} → Descent v u l from from_length next from' from_length' next' →
+        Place R n E rank total limit final from' from_length' next' (down R v u l S) u (done + 1)
+    place_down {from'} {from_length'} {next'} D =
         let b : Forest = next_kid.below in
         let o : Forest = next_kid.others in
         let is : P.left ≡ kid u l b o = next_kid.is in
@@ -133,7 +133,7 @@ module _ {R : Rules} {n : ℕ} {E : List Edge} {rank : ℕ → ℕ} {total limit
           mid = kid_ranked.2.0;
           gone = P.gone + l;
           grows = grows_u;
-          along = ((D.from_new, D.gap_new, P.below, grows_v), along);
+          along = ((D.from_new, D.from_length_new, P.below, grows_v), along);
           before = new.0;
           ranked = new.1;
           placed = new.2;
@@ -159,7 +159,7 @@ module _ {R : Rules} {n : ℕ} {E : List Edge} {rank : ℕ → ℕ} {total limit
             let B : ℕ → Type 0 = λ x. Grows E v (from v) x next_kid.others in
             subst A (sym (D.from_old v v≢u)) (subst B (sym D.next_more) next_kid.grows_others)
 
-        kept : (x w k : ℕ) (o : Forest) → rank x < rank v + 1 → rank w < rank x → Open n E from gap next x w k o → Open n E from' gap' next' x w k o
+        kept : (x w k : ℕ) (o : Forest) → rank x < rank v + 1 → rank w < rank x → Open n E from from_length next x w k o → Open n E from' from_length' next' x w k o
         kept x w k o hx hw h =
             let x≢u : x ≡ u → ⊥ = λ s. omega (arith, ap rank s, kid_ranked.1, P.before) in
             let w≢u : w ≡ u → ⊥ = λ s. omega (arith, ap rank s, kid_ranked.1, P.before) in
@@ -167,36 +167,36 @@ module _ {R : Rules} {n : ℕ} {E : List Edge} {rank : ℕ → ℕ} {total limit
             let A : ℕ → Type 0 = λ z. Grows E w z (next' w) o in
             let B : ℕ → Type 0 = λ z. Grows E w (from w) z o in (
               D.from_old x x≢u ∙ h.0,
-              D.gap_old x x≢u ∙ h.1,
+              D.from_length_old x x≢u ∙ h.1,
               h.2,
               subst A (sym (D.from_old w w≢u)) (subst B (sym (D.next_old w w≢u w≢v)) h.3),
             )
 
-        along : Along (Open n E from' gap' next') v P.trail
+        along : Along (Open n E from' from_length' next') v P.trail
         along =
-            along_map n rank (Open n E from gap next) (Open n E from' gap' next') (rank v + 1) kept v P.trail P.mid n (omega arith)
+            along_map n rank (Open n E from from_length next) (Open n E from' from_length' next') (rank v + 1) kept v P.trail P.mid n (omega arith)
             P.placed P.along
 
   -- Going up from v, where no child is left and steps are: to the node w that v was entered from, over the length l.
-  module _ {from gap next : ℕ → ℕ} {S : Table} {v done : ℕ} (P : Place R n E rank total limit final from gap next S v done) where
-    rise : (K : Trail) → P.trail ≡ K → P.left ≡ none → done < total → Rise R n E rank total limit final from gap next S v done
+  module _ {from from_length next : ℕ → ℕ} {S : Table} {v done : ℕ} (P : Place R n E rank total limit final from from_length next S v done) where
+    rise : (K : Trail) → P.trail ≡ K → P.left ≡ none → done < total → Rise R n E rank total limit final from from_length next S v done
     unfolding steps_left
     rise arrived is empty early = absurd (omega (arith, P.steps, ap (λ X. size_of X) empty, ap steps_left is))
     rise (back w l o K) is empty early =
-        let T : Trail → Type 0 = λ X. Along (Open n E from gap next) v X in
-        let at : Along (Open n E from gap next) v (back w l o K) = subst T is P.along in
+        let T : Trail → Type 0 = λ X. Along (Open n E from from_length next) v X in
+        let at : Along (Open n E from from_length next) v (back w l o K) = subst T is P.along in
         let U : Trail → Type 0 = λ X. Placed n rank P.mid v X n in
         let placed : Placed n rank P.mid v (back w l o K) n = subst U is P.placed in
         let V : Forest → Type 0 = λ X. Ranked n rank P.lo X P.mid in
         let ranked : Ranked n rank P.lo none P.mid = subst V empty P.ranked in
         let new = placed_up n rank P.lo P.mid n w v l o K P.before ranked placed in
         let to : from v ≡ w = at.0.0 in
-        let far : gap v ≡ l = at.0.1 in
+        let far : from_length v ≡ l = at.0.1 in
         let size : size_of P.left ≡ 0 = ap (λ X. size_of X) empty in
         let wire : wire_of P.left ≡ 0 = ap (λ X. wire_of X) empty in
-        let A : ℕ → Type 0 = λ x. Place R n E rank total limit final from gap next (relax v x (gap v) S) x (done + 1) in
-        let B : ℕ → Type 0 = λ x. Place R n E rank total limit final from gap next (relax v w x S) w (done + 1) in
-        let here : Place R n E rank total limit final from gap next (relax v w l S) w (done + 1) =
+        let A : ℕ → Type 0 = λ x. Place R n E rank total limit final from from_length next (relax v x (from_length v) S) x (done + 1) in
+        let B : ℕ → Type 0 = λ x. Place R n E rank total limit final from from_length next (relax v w x S) w (done + 1) in
+        let here : Place R n E rank total limit final from from_length next (relax v w l S) w (done + 1) =
         record {
           left = o;
           trail = K;
@@ -224,20 +224,20 @@ module _ {R : Rules} {n : ℕ} {E : List Edge} {rank : ℕ → ℕ} {total limit
           place = subst A (sym to) (subst B (sym far) here);
         }
 
-    pub climbs : Nothing E v (from v) (next v) → done < total → Rise R n E rank total limit final from gap next S v done
+    pub climbs : Nothing E v (from v) (next v) → done < total → Rise R n E rank total limit final from from_length next S v done
     climbs nothing early = rise P.trail refl (grows_none P.grows nothing) early
 
   -- All steps done: the table is the walk's.
-  pub place_end : {from gap next : ℕ → ℕ} {S : Table} {v : ℕ} → Place R n E rank total limit final from gap next S v total → S ≡ final
+  pub place_end : {from from_length next : ℕ → ℕ} {S : Table} {v : ℕ} → Place R n E rank total limit final from from_length next S v total → S ≡ final
   place_end {S = S} {v} P =
       sym (steps_none R v P.trail P.left S (omega (arith, P.steps))) ∙ P.ends
 
 -- Before the first step.
-pub place_start : (R : Rules) (n : ℕ) (E : List Edge) (P : Planted n E) (limit : ℕ) (from gap next : ℕ → ℕ) → from 0 ≡ 0 → next 0 ≡ 0 →
+pub place_start : (R : Rules) (n : ℕ) (E : List Edge) (P : Planted n E) (limit : ℕ) (from from_length next : ℕ → ℕ) → from 0 ≡ 0 → next 0 ≡ 0 →
     2 * wire_of P.forest ≤ limit →
-    Place R n E P.rank (2 * size_of P.forest) limit (walk R 0 P.forest laws.start) from gap next laws.start 0 0
+    Place R n E P.rank (2 * size_of P.forest) limit (walk R 0 P.forest laws.start) from from_length next laws.start 0 0
 unfolding steps_left way_left
-place_start R n E P limit from gap next h k fits =
+place_start R n E P limit from from_length next h k fits =
     let A : ℕ → Type 0 = λ x. Grows E 0 x (next 0) P.forest in
     let B : ℕ → Type 0 = λ x. Grows E 0 0 x P.forest in
     record {

@@ -3,7 +3,7 @@ ghost use Rattle.std.specs.Prelude.{ℕ, ◌<◌, ◌≤◌};
 use seed::Seed;
 use std::alloc::Global;
 use std::test::Fail;
-use walk::{Allowance, Table, Unfit};
+use walk::{Allowance, Table, WalkFault};
 
 // One more edge, and one more row with its direct distance.
 #[derive(Clone, Copy)]
@@ -21,7 +21,7 @@ struct Net {
     table: Table,
 }
 
-// Ten times the number. Kept: there is no `From` between these two types of 64 bits, and `try_from` would need a value for a failure that can't come.
+// Ten times the number.
 fn tens(n: usize) -> u64 {
     n.saturating_mul(10) as u64
 }
@@ -62,7 +62,8 @@ impl Net {
     // How many breakpoints a walk with the allowance p/q makes; nothing where the seed is not walked.
     fn broken(&mut self, pins: usize, p: u64, q: u64) -> Option<usize> {
         let allowance = Allowance::new(p, q)?;
-        self.table.walk(&self.seed, pins, allowance).ok()?;
+        let tree = self.seed.as_tree()?;
+        self.table.walk(&tree, pins, allowance).ok()?;
         Some(self.table.breakpoints())
     }
 
@@ -190,25 +191,18 @@ fn breaks_every_other_tooth_of_a_comb(rt: HostRuntime) -> Result<(), Fail> {
 fn refuses_what_is_no_tree(rt: HostRuntime) -> Result<(), Fail> {
     let mut net = Net::new(rt.alloc())?;
     let quarter = Allowance::new(1, 4).ok_or("no allowance")?;
-    assert_eq!(rt;
-        net.table.walk(&net.seed, 0, quarter),
-        Err(Unfit::NoTree),
-        "no nodes"
-    );
+    assert!(rt; net.seed.as_tree().is_none(), "no nodes");
     net.start(2)?;
     assert!(rt; net.table.add(7).is_some());
-    assert_eq!(rt;
-        net.table.walk(&net.seed, 2, quarter),
-        Err(Unfit::NoTree),
-        "two parts"
-    );
+    assert!(rt; net.seed.as_tree().is_none(), "two parts");
     net.seed.join(0, 1, 7)?;
     assert!(rt; net.broken(2, 1, 4) == Some(0));
     assert!(rt; net.broken(2, 1, 0).is_none(), "no allowance");
     assert!(rt; net.table.add(3).is_some());
+    let tree = net.seed.as_tree().ok_or("no tree")?;
     assert_eq!(rt;
-        net.table.walk(&net.seed, 2, quarter),
-        Err(Unfit::Rows),
+        net.table.walk(&tree, 2, quarter),
+        Err(WalkFault),
         "a row too many"
     );
     Ok(())

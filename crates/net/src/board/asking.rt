@@ -3,8 +3,8 @@ ghost use Rattle.forest.specs.Edges.{Joined};
 ghost use Rattle.net.specs.Nets.{Checked};
 ghost use Rattle.net_laws.specs.declared.fault.Fault.TheVariants.{TooFewPins};
 ghost use Rattle.seed.specs.Seeds.{edges_of};
-ghost use Rattle.span.specs.Lengths.{spot_of};
-ghost use Rattle.tree_laws.specs.Distances.{reach_of};
+ghost use Rattle.space.specs.Spots.{spot_of};
+ghost use Rattle.tree.specs.Hooks.{reach_of};
 
 use super::Board;
 use crate::asking::apart;

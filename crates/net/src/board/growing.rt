@@ -3,7 +3,7 @@ ghost use Rattle.forest.specs.Edges.{wire};
 ghost use Rattle.net_laws.specs.States.{with_seed};
 ghost use Rattle.seed.specs.Seeds.{edges_of};
 ghost use Rattle.span.specs.Lengths.{lengths};
-ghost use Rattle.span.specs.Spanning.{Spanning};
+ghost use Rattle.span_laws.specs.Spanning.{Spanning};
 ghost use Rattle.net.specs.Nets.{seen};
 
 use super::Board;

@@ -19,9 +19,9 @@ impl<S: Space> Net<S> {
         ensures spared { is_ok result ≡ true → EdgeForEdge (wiring S.Space self.old.space) self.old.state self.new.state }
         ensures stays { self.new.space ≡ self.old.space }
     {
-        let allowance = self.board.ready()?;
         let builder = &mut self.work.builder;
-        Ok(self.board.straight(&self.space, builder, allowance))
+        let wire = self.board.straight(&self.space, builder)?;
+        Ok(wire)
     }
 }
 
@@ -36,9 +36,8 @@ impl<S: Joining> Net<S> {
         ensures shorter { is_ok result ≡ true → NoMoreThanStraight (joining S.Space S.Joining.own self.old.space) self.old.state self.new.state }
         ensures stays { self.new.space ≡ self.old.space }
     {
-        let allowance = self.board.ready()?;
         let builder = &mut self.work.builder;
-        let _ = self.board.straight(&self.space, builder, allowance);
+        self.board.straight(&self.space, builder)?;
         let joiner = &mut self.work.joiner;
         let broken = self.work.builder.broken();
         Ok(self.board.join(&self.space, joiner, broken))

@@ -1,5 +1,5 @@
 use Rattle.std.proofs.Common.{◌∙◌}
-use Rattle.span.proofs.Steps.{first_of_two}
+use Rattle.span.proofs.Firsts.{first_of_two}
 use Rattle.span.proofs.links.nearer.Goals as goal
 
 pub returns : goal.returns

@@ -1,10 +1,12 @@
-use Rattle.std.proofs.Common.{◌≡◌, map, take}
-use Rattle.tree_laws.specs.Distances.{reach_of}
+use Rattle.std.proofs.Common.{◌≡◌, length, map, take}
+use Rattle.tree.specs.Hooks.{reach_of}
 use Rattle.walk.specs.Tables.{rows_of}
 use Rattle.straight.specs.Built.{spot_at}
 use Rattle.straight.specs.Laying.{directs_of}
 use Rattle.straight.proofs.laying.measure.Given as goal
 
--- the rows have the distances of the spots passed
+-- there is a row for each of the spots passed, with its distance
 abbrev pub invariant-loop-spot : goal.invariant-loop-spot
-invariant-loop-spot g l = directs_of (rows_of l.walk) ≡ map (reach_of g.S.Space l.space (spot_at l.spots 0)) (take l.spot-index l.spots)
+invariant-loop-spot g l =
+    (directs_of (rows_of l.walk) ≡ map (reach_of g.S.Space l.space (spot_at l.spots 0)) (take l.spot-index l.spots))
+    × (length (rows_of l.walk) ≡ l.spot-index)

@@ -1,17 +1,23 @@
-use Rattle.std.proofs.Common.{◌≡◌, map, filter, ap, ◌∙◌}
+use Rattle.std.proofs.Common.{◌≡◌, map, filter, refl, ap, ◌∙◌}
 use Rattle.span.specs.Measured.{lengths_of}
-use Rattle.span.specs.Spanning.{elsewhere, offered}
-use Rattle.span.proofs.Grows.{lengths_fair, step_grows, step_none}
+use Rattle.span.specs.Growth.{elsewhere, offered}
+use Rattle.span.proofs.Grows.{lengths_fair, step_grows, step_none, step_not_refused}
 use Rattle.span.proofs.growing.Spanner.step.Goals as goal
 
 pub returns-in_default : goal.returns-in_default
-returns-in_default g c gr more = absurd (step_none _ _ c.args.seed.now c.args.self.now.links.outside.items c.in_default.ensures gr more)
+returns-in_default g c = absurd (step_none _ _ c.args.seed.now c.args.self.now.links.outside.items c.in_default.ensures c.requires.growing c.requires.more)
+
+pub returns-in_err-join : goal.returns-in_err-join
+returns-in_err-join g c =
+    let pins = c.args.pins.now in
+    absurd (step_not_refused _ (lengths_of pins) (lengths_fair g.S.Space pins.space.now pins.spots.now) c.args.seed.now c.join.new.self c.args.self.now.links.outside.items c.requires.growing c.in-Some.nearest c.in-Some.ensures c.join.result c.join.ensures _ c.in_err-join.was)
 
 pub returns : goal.returns
-returns g c gr more =
+returns g c =
     let pins = c.args.pins.now in
     let d = lengths_of pins in
     let F = c.args.self.now.links.outside.items in
     let w = c.in-Some.nearest in
     let links : c.offer.new.self.outside.items ≡ map (offered d w.v) (filter (elsewhere w.v) F) = c.offer.ensures ∙ ap (map (offered d w.v)) c.forget.ensures in
-    step_grows _ d (lengths_fair g.S.Space pins.space.now pins.spots.now) c.args.seed.now c.join.new.self F gr w c.in-Some.ensures c.join.result c.join.ensures c.offer.new.self.outside.items links
+    let more = step_grows _ d (lengths_fair g.S.Space pins.space.now pins.spots.now) c.args.seed.now c.join.new.self F c.requires.growing w c.in-Some.ensures c.join.result c.join.ensures c.offer.new.self.outside.items links in
+    record { done = refl; grows = more.0; count = more.1 }

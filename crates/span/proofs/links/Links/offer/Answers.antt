@@ -1,9 +1,9 @@
 use Rattle.std.proofs.Common.{◌≡◌, ◌<◌, length, get_or, set, ap, ◌∙◌, arith}
 use Rattle.std.proofs.lemmas.List.{get_or_default}
 use Rattle.std.proofs.lemmas.List.Edits.{map_over_more}
-use Rattle.order.specs.declared.link.Link.{Link}
+use Rattle.span_laws.specs.declared.link.Link.{Link}
 use Rattle.span.specs.Measured.{lengths_of}
-use Rattle.span.specs.Spanning.{better, offered}
+use Rattle.span.specs.Growth.{better, offered}
 use Rattle.span.proofs.links.Links.offer.Goals as goal
 
 pub loop-old-preserved : goal.loop-old-preserved

@@ -1,6 +1,6 @@
 use Rattle.std.proofs.Common.{◌≡◌, ◌++◌, map, take, drop}
 use Rattle.span.specs.Measured.{lengths_of}
-use Rattle.span.specs.Spanning.{offered}
+use Rattle.span.specs.Growth.{offered}
 use Rattle.span.proofs.links.Links.offer.Given as goal
 
 abbrev pub invariant-loop-old : goal.invariant-loop-old

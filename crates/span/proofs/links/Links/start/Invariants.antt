@@ -1,6 +1,6 @@
 use Rattle.std.proofs.Common.{◌≡◌, ◌+◌, ◌≤◌, max, length, vec_len, vec_items, vec_capacity}
 use Rattle.span.specs.Measured.{lengths_of}
-use Rattle.span.specs.Spanning.{fan}
+use Rattle.span.specs.Growth.{fan}
 use Rattle.span.proofs.links.Links.start.Given as goal
 
 abbrev pub invariant-loop-v : goal.invariant-loop-v

@@ -1,42 +1,38 @@
-use Rattle.std.proofs.Common.{◌≡◌, ◌+◌, length, vec_items, sym, ◌∙◌, arith}
-use Rattle.seed.specs.Seeds.{edges_of, nodes_of}
-use Rattle.tree_laws.specs.Distances.{reach_of}
-use Rattle.walk.specs.Tables.{rows_of as walkRows}
+use Rattle.std.proofs.Common.{◌≡◌, true, is_ok, is_some, length, vec_items, sym, ap, ◌∙◌, arith}
+use Rattle.tree.specs.Hooks.{reach_of}
+use Rattle.walk.specs.Tables.{as.rows walkRows}
+use Rattle.straight.specs.Built.{spot_at}
 use Rattle.straight.proofs.Spaced.{laid_measures}
-use Rattle.straight.proofs.Whole.{tree_from_test, whole_falls, whole_straight}
+use Rattle.straight.proofs.Whole.{on_ok, rows_counted, whole_falls, whole_straight}
 use Rattle.straight.proofs.building.Builder.straight.Goals as goal
 
 pub lay-requires-clause-falling : goal.lay-requires-clause-falling
 lay-requires-clause-falling g c =
-    let seed = c.args.seed.now in
+    let seed = c.args.seed.now.seed.now in
     let spots = c.args.spots.now in
     let d = reach_of g.S.Space c.args.space.now in
     let a = c.args.allowance in
-    let E = edges_of seed in
-    let n = nodes_of seed in
     let old = walkRows c.measure.new.walk in
-    let new = walkRows c.walk.new.self in
-    let tree : length E + 1 ≡ n = tree_from_test (length E + 1) n c.if-not-tree.ensures.test in
-    let size : n ≡ length spots = sym c.nodes.ensures ∙ c.if-nodes-spots.false in
-    whole_falls d spots a.p a.q c.args.pins n E old new c.walk.result (omega (arith, a.within.1)) seed.sound tree size c.measure.ensures c.walk.ensures.taken c.walk.ensures.walked c.walk.ensures.kept
+    let measured = c.in_ok-measure.ensures.rows in
+    let went : is_ok c.walk.result ≡ true = sym c.ok.ensures.variant ∙ ap is_some c.in_ok-ok.was in
+    let size : seed.nodes ≡ length spots = sym (c.walk.ensures.taken.0 went) ∙ rows_counted (d (spot_at spots 0)) spots old measured in
+    whole_falls d spots a.p a.q c.args.pins seed.nodes seed.edges old (walkRows c.walk.new.self) (omega (arith, a.within.1)) seed.sound size measured (on_ok c.walk.result went c.walk.ensures.walked) c.walk.ensures.kept
 
 pub returns : goal.returns
 returns g c =
-    let seed = c.args.seed.now in
+    let seed = c.args.seed.now.seed.now in
     let spots = c.args.spots.now in
     let s = c.args.space.now in
     let d = reach_of g.S.Space s in
     let a = c.args.allowance in
-    let E = edges_of seed in
-    let n = nodes_of seed in
     let old = walkRows c.measure.new.walk in
-    let new = walkRows c.walk.new.self in
     let found = vec_items c.lay.new.broken in
     let built = c.lay.new.tree.rows in
-    let tree : length E + 1 ≡ n = tree_from_test (length E + 1) n c.if-not-tree.ensures.test in
-    let size : n ≡ length spots = sym c.nodes.ensures ∙ c.if-nodes-spots.false in
-    let done = whole_straight d spots a.p a.q c.args.pins n E old new c.walk.result (omega (arith, a.within.1)) seed.sound tree size c.measure.ensures c.walk.ensures.taken c.walk.ensures.walked c.walk.ensures.kept found c.wire.result built c.lay.ensures.rows c.lay.ensures.found c.wire.ensures in (
-      (tree, size),
+    let measured = c.in_ok-measure.ensures.rows in
+    let went : is_ok c.walk.result ≡ true = sym c.ok.ensures.variant ∙ ap is_some c.in_ok-ok.was in
+    let size : seed.nodes ≡ length spots = sym (c.walk.ensures.taken.0 went) ∙ rows_counted (d (spot_at spots 0)) spots old measured in
+    let done = whole_straight d spots a.p a.q c.args.pins seed.nodes seed.edges old (walkRows c.walk.new.self) (omega (arith, a.within.1)) seed.sound size measured (on_ok c.walk.result went c.walk.ensures.walked) c.walk.ensures.kept found c.wire.result built c.lay.ensures.rows c.lay.ensures.found c.wire.ensures in (
+      (c.args.seed.now.whole, size),
       done,
-      λ laid. laid_measures g.S.Space s (g.met.S.Space.metric s) spots n E seed.sound size laid a.p a.q c.args.pins found c.wire.result built done,
+      λ laid. laid_measures g.S.Space s (g.met.S.Space.metric s) spots seed.nodes seed.edges seed.sound size laid a.p a.q c.args.pins found c.wire.result built done,
     )

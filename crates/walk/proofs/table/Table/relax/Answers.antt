@@ -13,7 +13,7 @@ returns-clause-after c =
     let at = get_or_read rows c.args.u c.index.result.now c.requires.near c.index.ensures idle in
     let to = get_or_read rows c.args.v old c.requires.far c.index_mut-row.ensures.value idle in
     relax_present rows c.args.u c.args.v c.args.l c.in-Some.e
-    (record { mark = c.offered-row.result; direct = old.direct; from = old.from; gap = old.gap; next = old.next })
+    (record { mark = c.offered-row.result; direct = old.direct; from = old.from; from_length = old.from_length; next = old.next })
     c.requires.far (sym (ap (λ r. r.mark.est) at) ∙ c.in-Some.is)
     (c.offered-row.ensures ∙
     ap (λ (r : Row). offered c.args.u c.args.l (c.in-Some.e + c.args.l) r.mark.est (seen r.mark)) to)

@@ -1,6 +1,7 @@
 use Rattle.std.proofs.Common.{ℕ, ◌+◌, ◌*◌, ◌<◌, vec_items, sym, subst₂, arith}
 use Rattle.forest.specs.Rooted.{size_of}
-use Rattle.seed.specs.Seeds.{nodes_of, edges_of}
+use Rattle.forest.proofs.Accepted.{accepted}
+use Rattle.forest.proofs.Rooting.{planted}
 use Rattle.walk.specs.declared.table.Table.{Table}
 use Rattle.walk.proofs.Loop.{Looping, loop_start, loop_needs, loop_rise, loop_down, loop_up, loop_end, loop_steps}
 use Rattle.walk.proofs.table.Table.take_steps.Goals as goal
@@ -8,14 +9,14 @@ use Rattle.walk.proofs.table.Table.take_steps.Goals.{in-Some, in-None}
 
 pub loop-step-init : goal.loop-step-init
 loop-step-init c =
-    let s = c.args.seed.now in
+    let s = c.args.tree.now.seed.now in
     let R = c.args.rules in
-    loop_start R.allowance.p R.allowance.q R.pins (nodes_of s) (edges_of s) c.args.self.now.rows.items s.sound s.few
-    c.requires.planted c.requires.ready
+    loop_start R.allowance.p R.allowance.q R.pins s.nodes s.edges c.args.self.now.rows.items s.sound s.few
+    (planted (accepted s.nodes s.edges s.sound) c.args.tree.now.whole) c.requires
 
 pub descend-requires : goal.descend-requires
 descend-requires c =
-    let d = loop_needs c.args.rules.allowance.within.1 c.args.seed.now.sound c.loop-step.invariant c.index-row.result.now c.index-row.ensures c.in-Some.ensures.least in
+    let d = loop_needs c.args.rules.allowance.within.1 c.args.tree.now.seed.now.sound c.loop-step.invariant c.index-row.result.now c.index-row.ensures c.in-Some.ensures.least in
     record {
       near = omega (arith, c.loop-step.invariant.place.below, c.loop-step.invariant.count);
       far = d.far;
@@ -26,21 +27,21 @@ descend-requires c =
 
 pub relax-requires : goal.relax-requires
 relax-requires c =
-    let s = c.args.seed.now in
+    let s = c.args.tree.now.seed.now in
     let L = c.loop-step.invariant in
-    let total = loop_steps (nodes_of s) (edges_of s) L.planted c.count-step-end.result c.count-step-end.ensures c.requires.tree in
+    let total = loop_steps s.nodes s.edges L.planted c.count-step-end.result c.count-step-end.ensures c.args.tree.now.whole in
     let r = loop_rise c.args.rules.allowance.within.1 s.sound L c.index-row.result.now c.index-row.ensures c.in-None.ensures.least (omega (arith, total, c.loop-step-test.true)) in
     record { near = omega (arith, L.place.below, L.count); far = r.far; room = r.told }
 
 pub loop-step-preserved : goal.loop-step-preserved
 loop-step-preserved c =
-    let s = c.args.seed.now in
+    let s = c.args.tree.now.seed.now in
     let R = c.args.rules in
     let L = c.loop-step.invariant in
-    let total = loop_steps (nodes_of s) (edges_of s) L.planted c.count-step-end.result c.count-step-end.ensures c.requires.tree in
+    let total = loop_steps s.nodes s.edges L.planted c.count-step-end.result c.count-step-end.ensures c.args.tree.now.whole in
     let early : c.loop-step.step < 2 * size_of L.planted.forest = omega (arith, total, c.loop-step-test.true) in
     let P : Table → ℕ → Type 0 =
-    λ t x. Looping R.allowance.p R.allowance.q R.pins (nodes_of s) (edges_of s) c.args.self.now.rows.items (vec_items t.rows) x (c.loop-step.step + 1) in
+    λ t x. Looping R.allowance.p R.allowance.q R.pins s.nodes s.edges c.args.self.now.rows.items (vec_items t.rows) x (c.loop-step.step + 1) in
     elim c.match-neighbour.branch [
       | in-Some w ↦
           subst₂ P (sym w.self-is) (sym w.v-is)
@@ -52,7 +53,7 @@ loop-step-preserved c =
 
 pub returns-clause-walked : goal.returns-clause-walked
 returns-clause-walked c =
-    let s = c.args.seed.now in
+    let s = c.args.tree.now.seed.now in
     let L = c.loop-step.invariant in
-    let total = loop_steps (nodes_of s) (edges_of s) L.planted c.count-step-end.result c.count-step-end.ensures c.requires.tree in
+    let total = loop_steps s.nodes s.edges L.planted c.count-step-end.result c.count-step-end.ensures c.args.tree.now.whole in
     loop_end c.args.rules.allowance.within.1 s.sound L (omega (arith, total, c.loop-step-test.false, c.loop-step.auto.step-end))

@@ -1,0 +1,3 @@
+pub mod Links
+pub mod LinkOrder
+pub mod Spanning
