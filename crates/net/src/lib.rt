@@ -2,12 +2,9 @@
 
 #![tactic(auto)]
 
-mod asking;
-mod board;
 mod net;
-mod worst;
+mod state;
 
-pub use board::Board;
 pub use net::Net;
 pub use net_laws::{Call, Fault, JoinCall, Layer, Reach, SpaceFault, Worst};
 pub use space::{Air, Joining, Lift, Plane, Space, Spot};

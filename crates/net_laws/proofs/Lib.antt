@@ -5,3 +5,7 @@ pub mod Sparing
 pub mod Alone
 pub mod Keeping
 pub mod Owning
+pub mod Owned
+pub mod Worsts
+pub mod Builds
+pub mod Moves

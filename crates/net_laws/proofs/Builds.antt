@@ -1,39 +1,33 @@
--- The breakpoints of a straight tree are rows on the driver that can be joined. Assumes nothing.
-use Rattle.std.proofs.Common.{◌≡◌, ℕ, zero, suc, ◌+◌, ◌<◌, ◌≤◌, Bool, true, false, cond, ◌||◌, eqb, List, [], ◌∷◌, ◌++◌, length, get_or, Some, None, Ok, vec_items, Option, sym, refl, ap, ◌∙◌, subst, ⊎_elim, arith}
+-- The breakpoints of a straight tree are rows on the driver that can be joined, and what the two builds answer. Assumes nothing.
+use Rattle.std.proofs.Common.{◌≡◌, ℕ, zero, suc, ◌+◌, ◌<◌, ◌≤◌, Bool, true, false, cond, ◌||◌, eqb, List, [], ◌∷◌, ◌++◌, length, get_or, Some, None, Ok, Option, sym, refl, ap, ◌∙◌, subst, ⊎_elim, arith}
 use Rattle.std.proofs.lemmas.List.{append-nil, get_or_append_left, get_or_push, length_push}
 use Rattle.std.proofs.lemmas.Bool.{cases_Bool, cases_eq, cond-false, cond-true}
 use Rattle.std.specs.Option.{unwrap_or}
 use Rattle.build_laws.specs.Joining.{Joins, far_of, meet_of, meet_row}
 use Rattle.build_laws.specs.Joining.Joins.{done, join}
-use Rattle.build_laws.proofs.Building.{straight_row_lem}
-use Rattle.forest.specs.declared.Edge.{Edge}
 use Rattle.build_laws.specs.Straight.{straight}
+use Rattle.build_laws.proofs.Building.{straight_length, straight_row_lem}
+use Rattle.forest.specs.declared.Edge.{Edge}
 use Rattle.joined.proofs.Keeping.{among_here}
 use Rattle.joined.specs.Joinings.{Joinable, JoinedBy, Whole}
-use Rattle.net_laws.specs.Answers.{JoinedAnswer, JoinedTree, breakpoints, broken_if, marks_of, rules_of}
-use Rattle.net_laws.specs.States.{State, with_tree}
-use Rattle.net_laws.specs.Worlds.{cut, joining}
+use Rattle.net_laws.specs.Answers.{JoinedTree, StraightTree, breakpoints, broken_if, marks_of, rules_of}
 use Rattle.order.specs.Firsts.{Among}
-use Rattle.seed.specs.Seeds.{edges_of, nodes_of}
-use Rattle.share.specs.Shares.{join_of}
 use Rattle.space.specs.declared.Joining.{Ghosts as JoinGhosts}
 use Rattle.space.specs.declared.Space.{Ghosts}
 use Rattle.space.specs.declared.spot.Spot.{Spot}
 use Rattle.span.specs.Lengths.{spot_of as spot_at}
 use Rattle.straight.specs.Built.{StraightBy, Straightened, breakpoints_of}
 use Rattle.straight.proofs.Mixed.{among_breakpoints}
-use Rattle.tree.specs.Hooks.{reach_of}
 use Rattle.tree.specs.Tables.{rows_of}
 use Rattle.tree.specs.declared.table.Table.{Table as Tree-table}
-use Rattle.tree_laws.specs.Trees.{add, hang, spot_of, up, wire_of}
+use Rattle.tree_laws.specs.Trees.{add, hang, spot_of, up}
 use Rattle.tree_laws.specs.declared.Row.{Row}
 use Rattle.tree_laws.proofs.Adding.{add_length}
 use Rattle.tree_laws.proofs.Hanging.{hang_length}
 use Rattle.walk_laws.specs.Walk.{Rules, Table}
-use Rattle.walk.specs.declared.allowance.Allowance.{Allowance}
-use Rattle.net.specs.Nets.{ReadyAnswer, seen, table_of}
-use Rattle.net.specs.declared.board.Board.{Board}
-use Rattle.net.proofs.Builds.{straight_count}
+
+pub straight_count : (R : Rules) (place : ℕ → Spot) (n : ℕ) (E : List Edge) (found : List ℕ) (w : ℕ) (rows : List Row) → StraightBy R place n E found w rows → length rows ≡ n
+straight_count R place n E found w rows s = ap length s.rows ∙ straight_length R s.marks place n
 
 abbrev Rising : List ℕ → Type 0
 Rising xs = (i : ℕ) → i + 1 < length xs → get_or xs i 0 < get_or xs (i + 1) 0
@@ -113,36 +107,24 @@ straight_joinable R place n E found w rows s room =
     on_driver true b u e = refl
     on_driver false b u e = cond-true b 0 u e
 
-pub joins_more : (d : Spot → Spot → ℕ) (m : Spot → Spot → Spot → Spot) {rows : List Row} {group : List ℕ} {after : List Row} → Joins d m rows group after → length rows ≤ length after
-joins_more d m (done e) = omega arith
-joins_more d m {rows} (join a b far some j) =
-    let z = meet_of d m rows a b in
-    let one = add rows 0 z (far_of d m rows a b) in
-    let two = hang one a (length rows) (d z (spot_of rows a)) in
-    let e : length (meet_row d m rows a b) ≡ length rows + 1 = hang_length two b (length rows) (d z (spot_of rows b)) ∙ hang_length one a (length rows) (d z (spot_of rows a)) ∙ add_length rows 0 z (far_of d m rows a b) in
-    omega (arith, e, joins_more d m j)
-
 -- a group that can be joined is joined
 pub joined_some : {X : Type 0} (G : Ghosts X) (J : JoinGhosts X) (s : X) (t₀ : Tree-table) (group : List ℕ) (r : Option ℕ) (t : Tree-table) → JoinedBy G J s t₀ group r t → Joinable (rows_of t₀) group → Whole G J s (rows_of t₀) group (unwrap_or r 0) (rows_of t)
 joined_some G J s t₀ group None t h j = absurd (h.0 j)
 joined_some G J s t₀ group (Some w) t h j = h
 
-pub joined_tree : (d : Spot → Spot → ℕ) (m : Spot → Spot → Spot → Spot) (b : Board) (p q : ℕ) (found : List ℕ) (w : ℕ) (rows after : List Row) → Straightened d (vec_items b.spots) p q b.pins (nodes_of b.seed) (edges_of b.seed) found w rows → Joins d m rows found after → JoinedTree d m (vec_items b.spots) b.pins p q (edges_of b.seed) after
-joined_tree d m b p q found w rows after s j =
-    let spots = vec_items b.spots in
-    let P : ℕ → Type 0 = λ n. Straightened d spots p q b.pins n (edges_of b.seed) found w rows in
+-- what the builder made is the straight tree
+pub straight_tree : (d : Spot → Spot → ℕ) (spots : List Spot) (pins p q : ℕ) (E : List Edge) (found : List ℕ) (w : ℕ) (rows : List Row) → Straightened d spots p q pins (length spots) E found w rows → StraightTree d spots pins p q E rows
+straight_tree d spots pins p q E found w rows h =
+    record { planted = h.walked.planted; built = h.rows ∙ ap (λ S. straight (rules_of d spots pins p q) S (spot_at spots) (length spots)) h.walked.is }
+
+-- what the joiner made of it is the joined tree
+pub joined_tree : (d : Spot → Spot → ℕ) (m : Spot → Spot → Spot → Spot) (spots : List Spot) (pins p q : ℕ) (E : List Edge) (found : List ℕ) (w : ℕ) (rows after : List Row) → Straightened d spots p q pins (length spots) E found w rows → Joins d m rows found after → JoinedTree d m spots pins p q E after
+joined_tree d m spots pins p q E found w rows after h j =
     let Q : List ℕ → Type 0 = λ xs. Joins d m rows xs after in
-    let h = subst P b.nodes s in
-    let e : found ≡ breakpoints (marks_of d spots b.pins p q (edges_of b.seed) h.walked.planted) (length spots) =
-    h.broken ∙ ap (λ S. breakpoints_of S (length spots)) h.walked.is ∙ breakpoints_listed (marks_of d spots b.pins p q (edges_of b.seed) h.walked.planted) (length spots) in
+    let e : found ≡ breakpoints (marks_of d spots pins p q E h.walked.planted) (length spots) =
+    h.broken ∙ ap (λ S. breakpoints_of S (length spots)) h.walked.is ∙ breakpoints_listed (marks_of d spots pins p q E h.walked.planted) (length spots) in
     record {
       unjoined = rows;
-      straight = record { planted = h.walked.planted; built = h.rows ∙ ap (λ S. straight (rules_of d spots b.pins p q) S (spot_at spots) (length spots)) h.walked.is };
+      straight = record { planted = h.walked.planted; built = h.rows ∙ ap (λ S. straight (rules_of d spots pins p q) S (spot_at spots) (length spots)) h.walked.is };
       joins = subst Q e j;
     }
-
--- a build of a board that is ready, joined after it, answers as a net asks
-pub joined_told : {X : Type 0} (G : Ghosts X) (J : JoinGhosts X) (s : X) (b straight after : Board) (a : Allowance) (found : List ℕ) (w v : ℕ) → ReadyAnswer (seen b) (Ok a) → Straightened (reach_of G s) (vec_items b.spots) a.p a.q b.pins (nodes_of b.seed) (edges_of b.seed) found w (rows_of (table_of straight.tree)) → seen straight ≡ with_tree (seen b) (rows_of (table_of straight.tree)) → Joins (reach_of G s) (join_of G J s) (rows_of (table_of straight.tree)) found (rows_of (table_of after.tree)) → v ≡ wire_of (rows_of (table_of after.tree)) → seen after ≡ with_tree (seen straight) (rows_of (table_of after.tree)) → JoinedAnswer (cut (joining G J s)) (seen b) (seen after) (Ok v)
-joined_told G J s b straight after a found w v r t e j k h =
-    let rows = rows_of (table_of after.tree) in
-    (r.0, (r.1.0, (r.1.1.0, (a.p, a.q, rows, r.1.1.1, joined_tree (reach_of G s) (join_of G J s) b a.p a.q found w (rows_of (table_of straight.tree)) rows t j, k, h ∙ ap (λ (n : State). with_tree n rows) e))))

@@ -19,7 +19,7 @@ use Rattle.tree.specs.Hooks.{reach_of}
 use Rattle.tree.proofs.Measured.{uncut}
 use Rattle.tree_laws.specs.Trees.{path_length}
 use Rattle.tree_laws.specs.declared.Row.{Row}
-use Rattle.net.specs.Sinks.{Sink, SinkAt}
+use Rattle.net_laws.specs.Sinks.{Sink, SinkAt}
 
 -- ---- the worst is the first of the sinks
 
