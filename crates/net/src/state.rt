@@ -102,7 +102,7 @@ impl NetState {
         let pin = self.pins;
         self.spots.truncate(pin);
         self.spots.push_reserved(spot);
-        let _ = self.seed.restart(pin + 1);
+        self.seed.restart(pin + 1).unwrap();
         self.pins = pin + 1;
         self.stands = false;
         pin
@@ -144,7 +144,7 @@ impl NetState {
     {
         let point = self.spots.len();
         self.spots.push_reserved(spot);
-        let _ = self.seed.add_node();
+        self.seed.add_node().unwrap();
         self.stands = false;
         point
     }
@@ -172,7 +172,7 @@ impl NetState {
         requires fit { (0 < long) × (long ≤ LONGEST) }
         ensures { self.new ≡ with_edge self.old a b long }
     {
-        let _ = self.seed.join(a, b, long);
+        self.seed.join(a, b, long).unwrap();
         self.stands = false;
     }
 
@@ -202,7 +202,7 @@ impl NetState {
         ensures { self.new ≡ unseeded self.old }
     {
         self.spots.truncate(self.pins);
-        let _ = self.seed.restart(self.pins);
+        self.seed.restart(self.pins).unwrap();
         self.stands = false;
     }
 
