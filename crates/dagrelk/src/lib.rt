@@ -15,16 +15,20 @@ pub const NO_ROOM: u32 = 1;
 /// There was no memory for the net, and nothing was done.
 pub const NO_MEMORY: u32 = 2;
 
-/// What a run did: how many lines it answered, how many bytes it wrote, and why it stopped.
+/// What a run did. It differs from the `Outcome` of `job` by how a stop is told: by one number, which also says that there was no memory, since C has
+/// no `Result`.
 #[repr(C)]
 #[derive(Clone, Copy, Debug)]
 pub struct DagrelkOutcome {
+    /// How many lines were answered.
     pub lines: usize,
+    /// How many bytes their answers have.
     pub bytes: usize,
+    /// Why the run ended: `ANSWERED`, `NO_ROOM` or `NO_MEMORY`.
     pub stop: u32,
 }
 
-/// Runs a job, as `dagrelk_run(job, job_len, out, out_len)` in C.
+/// Runs a job, as `dagrelk_run(job, job_len, out, out_len)` in C. Memory is taken once, for the net that line 1 asks for, and given back at the end.
 #[unsafe(no_mangle)]
 pub extern "C" fn dagrelk_run(heap: Global, job: &[u8], out: &mut [u8]) -> DagrelkOutcome
     ensures { RanForC job.now out.old out.new result }

@@ -1,6 +1,6 @@
 // One call out of a list.
 ghost use Rattle.std.specs.Prelude.{◌≡◌};
-ghost use Rattle.net.proofs.Owned.{own_meets};
+ghost use Rattle.net_laws.proofs.Owned.{own_meets};
 ghost use Rattle.net_laws.specs.Answers.{JoinAnswers, World};
 ghost use Rattle.net_laws.specs.Worlds.{Keeps, joining, wiring};
 ghost use Rattle.net_laws.specs.declared.call.JoinCall.{JoinCall as AnyCall};
@@ -11,7 +11,7 @@ use net::Net;
 use net_laws::{Call, Fault, JoinCall};
 use space::{Joining, Space};
 
-/// A kind of call that nets in the spaces `S` take.
+/// A kind of call that nets in the spaces `S` take: `Call` over every wiring space, `JoinCall` over every joining one.
 pub trait NetCall<S: Space> {
     // The call among those of all kinds.
     ghost among: { Self → AnyCall };
@@ -19,7 +19,7 @@ pub trait NetCall<S: Space> {
     // What a space is to the calls of this kind.
     ghost world: { S → World };
 
-    /// Makes the call.
+    /// Makes the call, and answers as the method of the net that it stands for; 0 where that answers no number. A refusal leaves the net as it was.
     fn make(&self, net: &mut Net<S>) -> Result<u64, Fault>
         ensures answer { JoinAnswers (world net.old.space) net.old.state net.new.state (among self.now) result }
         ensures stays { net.new.space ≡ net.old.space };
@@ -32,7 +32,7 @@ pub trait NetCall<S: Space> {
 fn number(answer: Result<usize, Fault>) -> Result<u64, Fault>
     ensures { result ≡ answer }
 {
-    // Kept: there is no `From` between these two types of 64 bits, and `try_from` would need a value for a failure that can't come.
+    // Both types have 64 bits, and there is no `From` between them.
     answer.map(|k| k as u64)
 }
 
@@ -49,7 +49,6 @@ impl<S: Space> NetCall<S> for Call {
     ghost world = { wiring S.Space };
 
     fn make(&self, net: &mut Net<S>) -> Result<u64, Fault> {
-        // Kept: a call is a value that users list, so what it does is a match; closures would hide it from the log.
         match *self {
             Call::Pin(spot) => number(net.pin(spot)),
             Call::Allow(p, q) => count(net.allow(p, q)),

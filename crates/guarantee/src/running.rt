@@ -12,30 +12,35 @@ use space::{Joining, Space};
 
 /// Makes the calls on the net in their order, as many as there are places for their answers, and writes each answer down. Answers how many
 /// were made; the places past them stay.
-// Kept: the net, its calls and the places stay three parameters. Tried a struct that borrows all three: each clause then reads
-// `self.old.net.now.board`, and two more have to say that it borrows the same net and places afterwards.
 pub fn run<S: Space, C: NetCall<S>>(
     net: &mut Net<S>,
     calls: &[C],
     answers: &mut [Result<u64, Fault>],
 ) -> usize
     ensures count { result ≡ min (length calls.now) (length answers.old) }
-    ensures kept { Kept (C.world net.old.space) net.old.state (map C.among (take result calls.now)) (take result answers.new) net.new.state }
-    ensures rest { (k : ℕ) (d : Answered ℕ Refusal) → result ≤ k → slice_index_or answers.new k d ≡ slice_index_or answers.old k d }
+    ensures kept {
+        Kept (C.world net.old.space) net.old.state (map C.among (take result calls.now)) (take result answers.new)
+        net.new.state
+    }
+    ensures rest {
+        (k : ℕ) (d : Answered ℕ Refusal) → result ≤ k →
+        slice_index_or answers.new k d ≡ slice_index_or answers.old k d
+    }
     ensures stays { net.new.space ≡ net.old.space }
 {
     let count = calls.len().min(answers.len());
-    // Kept: tried `answers.iter_mut().zip(calls)`; the proof did not close, since after `iter_mut` it knows only the length.
     for (i, call) in calls[..count].iter().enumerate() {
         answers[i] = call.make(net);
     }
     count
 }
 
-/// How many calls were made on the net in a wiring space, and on the one in a joining space.
+/// How many calls were made on each of two nets.
 #[derive(Clone, Copy, Debug, PartialEq, Eq)]
 pub struct Made {
+    /// On the one in the wiring space.
     pub wiring: usize,
+    /// On the one in the joining space.
     pub joining: usize,
 }
 
@@ -50,12 +55,24 @@ pub fn guarantee<W: Space, J: Joining>(
     joining_answers: &mut [Result<u64, Fault>],
 ) -> Made
     ensures wiring_count { result.wiring ≡ min (length calls.now) (length answers.old) }
-    ensures wiring { Kept (wiringWorld W.Space wiring.old.space) wiring.old.state (wired (take result.wiring calls.now)) (take result.wiring answers.new) wiring.new.state }
-    ensures wiring_rest { (k : ℕ) (d : Answered ℕ Refusal) → result.wiring ≤ k → slice_index_or answers.new k d ≡ slice_index_or answers.old k d }
+    ensures wiring {
+        Kept (wiringWorld W.Space wiring.old.space) wiring.old.state (wired (take result.wiring calls.now))
+        (take result.wiring answers.new) wiring.new.state
+    }
+    ensures wiring_rest {
+        (k : ℕ) (d : Answered ℕ Refusal) → result.wiring ≤ k →
+        slice_index_or answers.new k d ≡ slice_index_or answers.old k d
+    }
     ensures wiring_stays { wiring.new.space ≡ wiring.old.space }
     ensures joining_count { result.joining ≡ min (length joining_calls.now) (length joining_answers.old) }
-    ensures joining { Kept (joiningWorld J.Space J.Joining.own joining.old.space) joining.old.state (take result.joining joining_calls.now) (take result.joining joining_answers.new) joining.new.state }
-    ensures joining_rest { (k : ℕ) (d : Answered ℕ Refusal) → result.joining ≤ k → slice_index_or joining_answers.new k d ≡ slice_index_or joining_answers.old k d }
+    ensures joining {
+        Kept (joiningWorld J.Space J.Joining.own joining.old.space) joining.old.state
+        (take result.joining joining_calls.now) (take result.joining joining_answers.new) joining.new.state
+    }
+    ensures joining_rest {
+        (k : ℕ) (d : Answered ℕ Refusal) → result.joining ≤ k →
+        slice_index_or joining_answers.new k d ≡ slice_index_or joining_answers.old k d
+    }
     ensures joining_stays { joining.new.space ≡ joining.old.space }
 {
     let first = run(wiring, calls, answers);

@@ -4,11 +4,14 @@ ghost use Rattle.job.specs.Jobs.{Ran};
 use crate::answering::Answerer;
 use request::next_line;
 
-/// What a run did: how many lines it answered and how many bytes it wrote, and whether it stopped before the end of the job.
+/// What a run did. That there was no memory for the net is no outcome here but an error; for C, `dagrelk` tells it and a stop by one number.
 #[derive(Clone, Copy, Debug, PartialEq, Eq)]
 pub struct Outcome {
+    /// How many lines were answered.
     pub lines: usize,
+    /// How many bytes their answers have.
     pub bytes: usize,
+    /// Whether the run stopped before the end of the job, since the whole answer of the next line did not fit.
     pub stopped: bool,
 }
 

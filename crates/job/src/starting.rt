@@ -54,7 +54,10 @@ fn run_over<S: Space + Drop, C: JobCall<S>>(
     rest: &[u8],
     out: &mut [u8],
 ) -> Result<Outcome, AllocError>
-    ensures begun { IfOk result (λ o. Begun (over (C.NetCall.world space) C.JobCall.joins fresh) (Ok (Number 0)) rest.now out.old out.new o) }
+    ensures begun {
+        IfOk result (λ o.
+        Begun (over (C.NetCall.world space) C.JobCall.joins fresh) (Ok (Number 0)) rest.now out.old out.new o)
+    }
     ensures err { OnErr result (out.new ≡ out.old) }
 {
     let net = Net::new(heap, space)?;
@@ -73,7 +76,10 @@ fn run_in(
     rest: &[u8],
     out: &mut [u8],
 ) -> Result<Outcome, AllocError>
-    ensures begun { IfOk result (λ o. Begun (over (world_of word price) (joins_of word) fresh) (Ok (Number 0)) rest.now out.old out.new o) }
+    ensures begun {
+        IfOk result (λ o.
+        Begun (over (world_of word price) (joins_of word) fresh) (Ok (Number 0)) rest.now out.old out.new o)
+    }
     ensures err { OnErr result (out.new ≡ out.old) }
 {
     match (word, price) {
@@ -105,6 +111,7 @@ fn opening(asked: Result<Request, TextFault>) -> Result<(Word, Option<u32>), Tex
 }
 
 /// Answers the lines of a job, up to the first whose whole answer does not fit; fails, with nothing written, where there is no memory for the net.
+/// Memory is wanted once, for a net of full size, and given back at the end. What lies behind the bytes that were written stays.
 pub fn run(heap: Global, job: &[u8], out: &mut [u8]) -> Result<Outcome, AllocError>
     ensures ran { IfOk result (λ o. JobRan job.now out.old out.new o) }
     ensures room { IfOk result (λ o. o.bytes ≤ length out.old) }

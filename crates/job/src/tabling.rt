@@ -1,9 +1,10 @@
 ghost use Rattle.std.specs.Prelude.{◌≡◌, ◌≤◌, ◌<◌, ◌+◌, ◌*◌, ◌++◌, ◌⊎◌, length};
 ghost use Rattle.std.specs.Bool.{OnFalse, OnTrue};
 ghost use Rattle.job.specs.Places.{Puts, put_at};
-ghost use Rattle.reply.specs.Texts.{answer_text, row_text, rows_in, rows_text};
+ghost use Rattle.reply.specs.Texts.{answer_text, row_text, rows_text};
 ghost use Rattle.tree_laws.specs.Trees.{row_of};
 ghost use Rattle.job.specs.Jobs.{Counted, Sized};
+ghost use Rattle.job.specs.Tabled.{rows_at, table_length};
 
 use crate::places::{place, put};
 use arrayvec::ArrayString;
@@ -14,8 +15,8 @@ use space::Space;
 
 /// The line of the row `k`.
 fn line_at<S: Space>(net: &Net<S>, k: usize) -> ArrayString<LINE>
-    requires { k < length (rows_in net.now.state.tree) }
-    ensures { result.bytes ≡ row_text k (row_of (rows_in net.now.state.tree) k) }
+    requires { k < length (rows_at net.now) }
+    ensures { result.bytes ≡ row_text k (row_of (rows_at net.now) k) }
 {
     let row = net.row(k).unwrap_or_default();
     row_line(k as u64, row)
@@ -23,8 +24,8 @@ fn line_at<S: Space>(net: &Net<S>, k: usize) -> ArrayString<LINE>
 
 /// How many bytes the lines of the rows take; nothing where that is more than `room`.
 fn table_size<S: Space>(net: &Net<S>, count: usize, room: usize) -> Option<usize>
-    requires { count ≡ length (rows_in net.now.state.tree) }
-    ensures { Sized room (length (rows_text 0 (rows_in net.now.state.tree))) result }
+    requires { count ≡ length (rows_at net.now) }
+    ensures { Sized room (table_length net.now) result }
 {
     let mut size = 0;
     for k in 0..count {
@@ -39,11 +40,11 @@ fn table_size<S: Space>(net: &Net<S>, count: usize, room: usize) -> Option<usize
 
 /// Puts the lines of the rows at a place where they fit, or where there is plenty of room for so many lines; answers the place behind them.
 fn put_rows<S: Space>(net: &Net<S>, count: usize, out: &mut [u8], at: usize) -> usize
-    requires count { count ≡ length (rows_in net.now.state.tree) }
-    requires fits { (at + length (rows_text 0 (rows_in net.now.state.tree)) ≤ length out.old) ⊎ (at + count * LINE ≤ length out.old) }
-    ensures end { result ≡ at + length (rows_text 0 (rows_in net.now.state.tree)) }
+    requires count { count ≡ length (rows_at net.now) }
+    requires fits { (at + table_length net.now ≤ length out.old) ⊎ (at + count * LINE ≤ length out.old) }
+    ensures end { result ≡ at + table_length net.now }
     ensures most { result ≤ at + count * LINE }
-    ensures bytes { out.new ≡ put_at out.old at (rows_text 0 (rows_in net.now.state.tree)) }
+    ensures bytes { out.new ≡ put_at out.old at (rows_text 0 (rows_at net.now)) }
 {
     let mut end = at;
     for k in 0..count {
@@ -55,10 +56,10 @@ fn put_rows<S: Space>(net: &Net<S>, count: usize, out: &mut [u8], at: usize) -> 
 
 /// Whether the lines of the rows and one line more fit in the room. Where there is plenty, no line is made to find out.
 fn fits<S: Space>(net: &Net<S>, count: usize, more: usize, room: usize) -> bool
-    requires count { count ≡ length (rows_in net.now.state.tree) }
+    requires count { count ≡ length (rows_at net.now) }
     requires line { more ≤ LINE }
-    ensures some { OnTrue result ((length (rows_text 0 (rows_in net.now.state.tree)) + more ≤ room) ⊎ (count * LINE + LINE ≤ room)) }
-    ensures none { OnFalse result (room < length (rows_text 0 (rows_in net.now.state.tree)) + more) }
+    ensures some { OnTrue result ((table_length net.now + more ≤ room) ⊎ (count * LINE + LINE ≤ room)) }
+    ensures none { OnFalse result (room < table_length net.now + more) }
 {
     if count < room / LINE {
         return true;
@@ -77,10 +78,10 @@ fn put_table<S: Space>(
     out: &mut [u8],
     at: usize,
 ) -> Option<usize>
-    requires count { count ≡ length (rows_in net.now.state.tree) }
+    requires count { count ≡ length (rows_at net.now) }
     requires at { at ≤ length out.old }
     requires line { length last.now ≤ LINE }
-    ensures { Puts out.old at (rows_text 0 (rows_in net.now.state.tree) ++ last.now) result out.new }
+    ensures { Puts out.old at (rows_text 0 (rows_at net.now) ++ last.now) result out.new }
 {
     if !fits(net, count, last.len(), out.len() - at) {
         return None;

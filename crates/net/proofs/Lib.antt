@@ -1,6 +1,1 @@
-pub mod Boards
-pub mod Breaks
-pub mod Builds
-pub mod Moves
-pub mod Owned
-pub mod Worsts
+pub mod States

@@ -1,4 +1,2 @@
-pub mod Nets
-pub mod Sinks
+pub mod Held
 pub mod Seen
-pub mod Building

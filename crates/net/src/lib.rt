@@ -2,14 +2,10 @@
 
 #![tactic(auto)]
 
-mod asking;
-mod board;
 mod net;
-mod worst;
+mod state;
 
-pub use board::Board;
 pub use net::Net;
 pub use net_laws::{Call, Fault, JoinCall, Layer, Reach, SpaceFault, Worst};
-pub use built_spaces::{Air, Lift, Plane};
-pub use space::{Joining, Space, Spot};
+pub use space::{Air, Joining, Lift, Plane, Space, Spot};
 pub use tree_laws::Row;

@@ -1,34 +1,41 @@
-ghost use Rattle.std.specs.Prelude.{◌≡◌, IfOk};
+ghost use Rattle.std.specs.Prelude.{◌≡◌, ◌<◌, true, is_err, is_ok, IfOk, Ok, Some};
+ghost use Rattle.net.specs.Seen.{Answered, Bounded, JoinAnswered, NoLonger, Spared, join_world, world};
+ghost use Rattle.net_laws.specs.Answers.{AllowAnswer};
+ghost use Rattle.net_laws.specs.Readings.{PathAnswer, RowAnswer, RowsAnswer, WorstAnswer, figure_of};
+ghost use Rattle.net_laws.specs.Sinks.{SinkAt};
 ghost use Rattle.net_laws.specs.States.{fresh};
+ghost use Rattle.net_laws.specs.Worsts.{worst_before};
+ghost use Rattle.net_laws.specs.declared.call.Call.TheVariants.{Edge as EdgeCall, Hook as HookCall, Pin as PinCall, Span as SpanCall, Steiner as SteinerCall, Straight as StraightCall, Unseed as UnseedCall};
+ghost use Rattle.net_laws.specs.declared.call.JoinCall.TheVariants.{Joined as JoinedCall, Share as ShareCall};
+ghost use Rattle.order.specs.Bests.{BestOf};
+ghost use Rattle.span.specs.Lengths.{length_of};
+ghost use Rattle.tree.specs.Tables.{rows_of};
 
-use crate::board::Board;
+use crate::state::NetState;
 use joined::Joiner;
-use space::Space;
-use span::Spanner;
+use net_laws::{Fault, Reach, Worst};
+use order::first_found;
+use space::{Joining, Space, Spot};
+use span::{Spanner, length_between};
 use std::alloc::{AllocError, Global};
 use std::marker::Model;
 use straight::Builder;
+use tree::{Table, reach};
+use tree_laws::Row;
+use walk::Allowance;
 
-mod building;
-mod pinning;
-mod reading;
-mod refining;
-mod seeding;
-
-/// The memory that the calls work in, reserved once.
-#[derive(Drop)]
-struct Work {
-    spanner: Spanner,
-    builder: Builder,
-    joiner: Joiner,
-}
-
-/// A net in a wiring space, to which it is tied. All memory is reserved when it is made; no call takes more.
+/// A net in a wiring space, to which it is tied: its spots are admitted there, its pins are at least 1 apart, and the lengths of its edges and
+/// of the rows of its tree are the space's distances. All memory is reserved when it is made; no call takes more.
+///
+/// It has at most 256 pins and 256 Steiner points, and its tree at most 768 rows. A call that is refused leaves the net as it was.
 #[derive(Drop)]
 pub struct Net<S: Space> {
     space: S,
-    board: Board,
-    work: Work,
+    state: NetState,
+    // The memory that the calls work in.
+    spanner: Spanner,
+    builder: Builder,
+    joiner: Joiner,
 }
 
 impl<S: Space> Model for Net<S> {
@@ -36,20 +43,25 @@ impl<S: Space> Model for Net<S> {
 
     ghost Value = { Seen S };
 
-    ghost use Rattle.net.specs.Nets.{seen};
     ghost use Rattle.net_laws.specs.Worlds.{Whole};
 
-    ghost view = { λ n. record { space = n.space; state = seen n.board } };
+    ghost view = { λ n. record { space = n.space; state = n.state } };
 
-    ghost invariant = { λ n. Whole S.Space n.space (seen n.board) };
+    ghost invariant = { λ n. Whole S.Space n.space n.state };
 }
 
-impl Work {
-    fn new(heap: Global) -> Result<Work, AllocError> {
+impl<S: Space + Drop> Net<S> {
+    /// A net without nodes in the space. Memory for the largest net is taken here, and fails here.
+    pub fn new(heap: Global, space: S) -> Result<Net<S>, AllocError>
+        ensures { IfOk result (λ n. n ≡ record { space = space; state = fresh }) }
+    {
+        let state = NetState::new(heap)?;
         let spanner = Spanner::new(heap)?;
         let builder = Builder::new(heap)?;
         let joiner = Joiner::new(heap)?;
-        Ok(Work {
+        Ok(Net {
+            space,
+            state,
             spanner,
             builder,
             joiner,
@@ -57,13 +69,180 @@ impl Work {
     }
 }
 
-impl<S: Space + Drop> Net<S> {
-    /// A net without nodes in the space.
-    pub fn new(heap: Global, space: S) -> Result<Net<S>, AllocError>
-        ensures { IfOk result (λ n. n ≡ record { space = space; state = fresh }) }
+impl<S: Space> Net<S> {
+    /// Adds a pin, the first of them the driver, and answers its number. Steiner points, edges and tree are dropped. Refused, in this order, where
+    /// the space is too wide (1) or does not admit the spot (2), there are 256 pins (3), or a pin is less than 1 away (4).
+    pub fn pin(&mut self, spot: Spot) -> Result<usize, Fault>
+        ensures answer { Answered (world S.Space self.old) self.old self.new (PinCall spot) result }
+        ensures unchanged { is_err result ≡ true → self.new ≡ self.old }
+        ensures stays { self.new.space ≡ self.old.space }
     {
-        let board = Board::new(heap)?;
-        let work = Work::new(heap)?;
-        Ok(Net { space, board, work })
+        self.state.pin(&self.space, spot)
+    }
+
+    /// Sets the allowance p/q: a sink's path may be (p + q) / q of its direct distance. The tree is dropped. Refused where p is above 1,000, or q
+    /// is 0 or above 1,000 (5).
+    pub fn allow(&mut self, p: u64, q: u64) -> Result<(), Fault>
+        ensures answer { AllowAnswer (world S.Space self.old) self.old.state self.new.state p q result }
+        ensures unchanged { is_err result ≡ true → self.new ≡ self.old }
+        ensures stays { self.new.space ≡ self.old.space }
+    {
+        let allowance = Allowance::new(p, q).ok_or(Fault::BadAllowance)?;
+        self.state.allow(allowance);
+        Ok(())
+    }
+
+    /// Adds a Steiner point and answers its number. The tree is dropped. Refused, in this order, where there are fewer than two pins (6), the
+    /// space does not admit the spot (2), or there are 256 Steiner points (7).
+    pub fn steiner(&mut self, spot: Spot) -> Result<usize, Fault>
+        ensures answer { Answered (world S.Space self.old) self.old self.new (SteinerCall spot) result }
+        ensures unchanged { is_err result ≡ true → self.new ≡ self.old }
+        ensures stays { self.new.space ≡ self.old.space }
+    {
+        self.state.steiner(&self.space, spot)
+    }
+
+    /// Adds an edge between the nodes `a` and `b`, and answers its length. The tree is dropped. Refused, in this order, where there are fewer than
+    /// two pins (6), a number is no node (8), a path of edges joins the nodes already (9), or they are less than 1 apart (10).
+    pub fn edge(&mut self, a: usize, b: usize) -> Result<u64, Fault>
+        ensures answer { Answered (world S.Space self.old) self.old self.new (EdgeCall a b) result }
+        ensures unchanged { is_err result ≡ true → self.new ≡ self.old }
+        ensures stays { self.new.space ≡ self.old.space }
+    {
+        self.state.edge(&self.space, a, b)
+    }
+
+    /// Drops the Steiner points, the edges and the tree.
+    pub fn unseed(&mut self)
+        ensures answer { Answered (world S.Space self.old) self.old self.new UnseedCall (Ok 0) }
+        ensures stays { self.new.space ≡ self.old.space }
+    {
+        self.state.unseed();
+    }
+
+    /// Grows the spanning seed of the pins in place of Steiner points and edges, and answers its wire. The tree is dropped. Refused where there are
+    /// fewer than two pins (6). The time grows with the square of the pins.
+    pub fn span(&mut self) -> Result<u64, Fault>
+        ensures answer { Answered (world S.Space self.old) self.old self.new SpanCall result }
+        ensures unchanged { is_err result ≡ true → self.new ≡ self.old }
+        ensures stays { self.new.space ≡ self.old.space }
+    {
+        self.state.paired()?;
+        Ok(self.state.span(&self.space, &mut self.spanner))
+    }
+
+    /// Builds the straight tree of the seed, in place of a tree that stands, and answers its wire. Refused, in this order, where there are fewer
+    /// than two pins (6), no allowance is set (11), or the edges are not one fewer than the nodes (12).
+    pub fn straight(&mut self) -> Result<u64, Fault>
+        ensures answer { Answered (world S.Space self.old) self.old self.new StraightCall result }
+        ensures bounds { is_ok result ≡ true → Bounded (world S.Space self.old) self.old self.new }
+        ensures spared { is_ok result ≡ true → Spared (world S.Space self.old) self.old self.new }
+        ensures unchanged { is_err result ≡ true → self.new ≡ self.old }
+        ensures stays { self.new.space ≡ self.old.space }
+    {
+        let allowance = self.state.ready()?;
+        let builder = &mut self.builder;
+        Ok(self.state.straight(&self.space, builder, allowance))
+    }
+
+    /// Makes the best hook move of the tree and answers what it saves. Refused where no tree stands (13) or no move saves wire (14). The time grows
+    /// with the square of the rows.
+    pub fn hook(&mut self) -> Result<u64, Fault>
+        ensures answer { Answered (world S.Space self.old) self.old self.new HookCall result }
+        ensures unchanged { is_err result ≡ true → self.new ≡ self.old }
+        ensures stays { self.new.space ≡ self.old.space }
+    {
+        self.state.hook(&self.space)
+    }
+
+    /// How many rows the tree has; they are numbered from 0. Refused where no tree stands (13).
+    pub fn rows(&self) -> Result<usize, Fault>
+        ensures { RowsAnswer self.now.state result }
+    {
+        Ok(self.state.tree()?.len())
+    }
+
+    /// The row `k` of the tree. Refused where no tree stands (13), or there is no such row (16).
+    pub fn row(&self, k: usize) -> Result<Row, Fault>
+        ensures { RowAnswer self.now.state k result }
+    {
+        let tree = self.state.tree()?;
+        tree.row(k).ok_or(Fault::OutOfRange)
+    }
+
+    /// How far the pin `k` is from the driver: along the tree, and directly. Refused where no tree stands (13), or there is no such pin (16). The time
+    /// grows with the rows on the path.
+    pub fn path(&self, k: usize) -> Result<Reach, Fault>
+        ensures { PathAnswer (S.Space.between self.now.space) self.now.state k result }
+    {
+        let tree = self.state.tree()?;
+        if k >= self.state.pins {
+            return Err(Fault::OutOfRange);
+        }
+        let path = tree.path(k).ok_or(Fault::OutOfRange)?;
+        let direct = reach(&self.space, self.state.spots[0], self.state.spots[k]);
+        Ok(Reach { path, direct })
+    }
+
+    /// 1000 times the path of the pin `k` by its direct distance, the fraction dropped.
+    fn figure(&self, tree: &Table, k: usize) -> u64
+        requires pin { k < self.now.state.pins }
+        requires stands { self.now.state.tree ≡ Some (rows_of tree.now) }
+        ensures { result ≡ figure_of (length_of S.Space self.now.space) self.now.state (rows_of tree.now) k }
+    {
+        let direct = length_between(&self.space, self.state.spots[0], self.state.spots[k]);
+        1000 * tree.path(k).unwrap_or(0) / direct
+    }
+
+    /// The pin `k` with its figure, where it is a sink.
+    fn sink(&self, tree: &Table, k: usize) -> Option<Worst>
+        requires pin { k < self.now.state.pins }
+        requires stands { self.now.state.tree ≡ Some (rows_of tree.now) }
+        ensures { BestOf worst_before (SinkAt (length_of S.Space self.now.space) self.now.state (rows_of tree.now) k) result }
+    {
+        if k == 0 {
+            return None;
+        }
+        let figure = self.figure(tree, k);
+        Some(Worst { pin: k, figure })
+    }
+
+    /// The sink whose path is the longest by its direct distance. Refused where no tree stands (13).
+    pub fn worst(&self) -> Result<Worst, Fault>
+        ensures { WorstAnswer (S.Space.between self.now.space) self.now.state result }
+    {
+        let tree = self.state.tree()?;
+        // There are 2 pins or more, so there is a sink.
+        Ok(first_found(self.state.pins, |k| self.sink(tree, k)).unwrap())
+    }
+}
+
+impl<S: Joining> Net<S> {
+    /// Builds the straight tree of the seed and joins its breakpoints pair after pair, in place of a tree that stands, and answers the wire. Refused
+    /// as `straight` is (6, 11, 12).
+    pub fn joined(&mut self) -> Result<u64, Fault>
+        ensures answer { JoinAnswered (join_world S.Space S.Joining.own self.old) self.old self.new JoinedCall result }
+        ensures bounds { is_ok result ≡ true → Bounded (join_world S.Space S.Joining.own self.old) self.old self.new }
+        ensures spared { is_ok result ≡ true → Spared (join_world S.Space S.Joining.own self.old) self.old self.new }
+        ensures shorter { is_ok result ≡ true → NoLonger (join_world S.Space S.Joining.own self.old) self.old self.new }
+        ensures unchanged { is_err result ≡ true → self.new ≡ self.old }
+        ensures stays { self.new.space ≡ self.old.space }
+    {
+        let allowance = self.state.ready()?;
+        let builder = &mut self.builder;
+        self.state.straight(&self.space, builder, allowance);
+        let joiner = &mut self.joiner;
+        let broken = self.builder.broken();
+        Ok(self.state.join(&self.space, joiner, broken))
+    }
+
+    /// Makes the best share move of the tree and answers what it saves. Refused, in this order, where no tree stands (13), no move saves wire (14), or
+    /// the tree has 768 rows (15). The time grows with the square of the rows.
+    pub fn share(&mut self) -> Result<u64, Fault>
+        ensures answer { JoinAnswered (join_world S.Space S.Joining.own self.old) self.old self.new ShareCall result }
+        ensures unchanged { is_err result ≡ true → self.new ≡ self.old }
+        ensures stays { self.new.space ≡ self.old.space }
+    {
+        self.state.share(&self.space)
     }
 }

@@ -5,3 +5,5 @@ pub mod Sparing
 pub mod Alone
 pub mod Keeping
 pub mod Owning
+pub mod Owned
+pub mod Worsts

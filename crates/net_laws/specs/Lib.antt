@@ -7,3 +7,4 @@ pub mod Worsts
 pub mod Worlds
 pub mod Logs
 pub mod Guarantee
+pub mod Sinks

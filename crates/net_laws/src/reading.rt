@@ -3,18 +3,21 @@ ghost use Rattle.net_laws.specs.Worsts.{worst_before, worst_order};
 use order::Rank;
 use std::cmp::Reverse;
 
-/// How far a pin is from the driver: along the tree, and directly.
+/// How far a pin is from the driver, in units of the space's distance.
 #[derive(Clone, Copy, Debug, PartialEq, Eq)]
 pub struct Reach {
+    /// Along the tree.
     pub path: u64,
+    /// Directly.
     pub direct: u64,
 }
 
-/// The worst sink, and its figure: 1000 times its path by its direct distance, the fraction dropped. The greater figure is the worse, and of
-/// equal ones the lower pin.
+/// The worst sink. The greater figure is the worse, and of equal ones the lower pin.
 #[derive(Clone, Copy, Debug, PartialEq, Eq)]
 pub struct Worst {
+    /// The number of its pin, from 1.
     pub pin: usize,
+    /// 1000 times its path by its direct distance, the fraction dropped.
     pub figure: u64,
 }
 

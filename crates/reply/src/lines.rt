@@ -26,7 +26,7 @@ fn push<I: Integer>(line: &mut ArrayString<LINE>, n: I)
     line.push_str(buffer.format(n));
 }
 
-/// The last line of the answer of the line `i`.
+/// The last line of the answer of the line `i`, its byte 10 at the end: `ok` with the values, or `no` with the refusal's layer, number and field.
 pub fn last_line(i: u64, answer: Result<Reply, TextFault>) -> ArrayString<LINE>
     ensures { result.bytes ≡ last_text i answer }
 {
@@ -92,7 +92,7 @@ fn no_line(i: u64, layer: &str, number: u8, field: u8) -> ArrayString<LINE>
     line
 }
 
-/// The line of a row.
+/// The line of the row `k`: its number, parent, spot and length, and a byte 10 at the end.
 pub fn row_line(k: u64, row: Row) -> ArrayString<LINE>
     ensures { result.bytes ≡ row_text k row }
 {

@@ -1,5 +1,5 @@
 -- The lines of a job, and the fields of a line. Assumes nothing.
-use Rattle.std.specs.Prelude.{◌≡◌, ℕ, ◌<◌, slice_index, List, [], ◌∷◌, cond, ◌==◌, Option, Some, None}
+use Rattle.std.specs.Prelude.{◌≡◌, ℕ, ◌<◌, slice_index, length, List, [], ◌∷◌, cond, ◌==◌, Option, Some, None}
 use Rattle.std.specs.List.{slice_split}
 use denote.Ref.{Bor}
 
@@ -25,3 +25,7 @@ fields_behind (Some rest) = fields_of rest.now
 -- The byte does not stand in the first n places.
 abbrev pub Lacks : (byte : ℕ) → List ℕ → (n : ℕ) → Type 0
 Lacks byte bytes n = (k : ℕ) → k < n → slice_index bytes k ≡ byte → ⊥
+
+-- The byte stands first at the place i.
+abbrev pub FirstAt : (byte : ℕ) → List ℕ → (i : ℕ) → Type 0
+FirstAt byte bytes i = (i < length bytes) × (slice_index bytes i ≡ byte) × Lacks byte bytes i

@@ -1,13 +1,13 @@
 // A job cut into lines, and a line into fields.
-ghost use Rattle.std.specs.Prelude.{◌≡◌, ◌<◌, ◌≤◌, [], ◌∷◌, map, length, take, slice_index, IfSome, IfNone};
-ghost use Rattle.request.specs.Lines.{Lacks, fields_behind, fields_of, lines_of};
+ghost use Rattle.std.specs.Prelude.{◌≡◌, ◌<◌, ◌≤◌, [], ◌∷◌, map, length, take, IfSome, IfNone};
+ghost use Rattle.request.specs.Lines.{FirstAt, Lacks, fields_behind, fields_of, lines_of};
 
 /// The most fields that a line needs, and one more.
 pub(crate) const PLACES: usize = 5;
 
 /// The first place of a byte.
 fn find(text: &[u8], byte: u8) -> Option<usize>
-    ensures found { IfSome result (λ i. (i < length text.now) × (slice_index text.now i ≡ byte) × Lacks byte text.now i) }
+    ensures found { IfSome result (λ i. FirstAt byte text.now i) }
     ensures none { IfNone result (Lacks byte text.now (length text.now)) }
 {
     for (i, b) in text.iter().enumerate() {

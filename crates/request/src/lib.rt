@@ -10,5 +10,5 @@ mod requests;
 
 pub use cutting::next_line;
 pub use fault::TextFault;
-pub use reading::read;
+pub use reading::{LONGEST_LINE, read};
 pub use requests::{Request, Word};

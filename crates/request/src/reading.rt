@@ -9,8 +9,8 @@ use crate::fields::{read_number, read_pair, read_price, read_spot, read_word};
 use crate::requests::Request;
 use net_laws::{Call, JoinCall};
 
-/// The most bytes of a line.
-const LONGEST_LINE: usize = 80;
+/// The most bytes of a line, without its byte 10.
+pub const LONGEST_LINE: usize = 80;
 
 /// The call as a request.
 fn change(call: Call) -> Request
@@ -142,7 +142,8 @@ fn read_fields(fields: &[&[u8]]) -> Result<Request, TextFault>
     }
 }
 
-/// What a line asks, or its refusal as text. The line stands without its byte 10.
+/// What a line asks, or its refusal as text. The line stands without its byte 10. Refused, in this order, where it has more than 80 bytes (20), field 1
+/// is no known letter (21), it has not that letter's fields (22), or a field is not good (23).
 pub fn read(line: &[u8]) -> Result<Request, TextFault>
     ensures reads { Reads line.now result }
     ensures only { ReadsOnly line.now result }

@@ -1,9 +1,18 @@
-use Rattle.std.proofs.Common.{Ok, rules}
-use Rattle.net.specs.Nets.{seen}
-use Rattle.net.proofs.Owned.{whole_steiner}
+use Rattle.net_laws.proofs.Owned.{unchanged_by, whole_steiner}
 use Rattle.net.proofs.net.Net.steiner.Goals as goal
 
 pub invariant_of-self : goal.invariant_of-self
 invariant_of-self g c =
     let n = c.self.inside in
-    (whole_steiner g.S.Space n.space (g.met.S.Space.metric n.space) (seen n.board) (seen c.add_point.new.self) c.args.spot (Ok c.add_point.result) (search rules) tt c.self.invariant).1
+    let s = n.space in
+    let m = c.steiner.new.self in
+    let t = c.steiner.ensures in
+    (whole_steiner g.S.Space s (g.met.S.Space.metric s) n.state m c.args.spot c.steiner.result t.answer (unchanged_by c.steiner.result n.state m t.unchanged) c.self.invariant).1
+
+pub returns-clause-answer : goal.returns-clause-answer
+returns-clause-answer g c =
+    let n = c.self.inside in
+    let s = n.space in
+    let m = c.steiner.new.self in
+    let t = c.steiner.ensures in
+    rw (← c.self.view_is) (whole_steiner g.S.Space s (g.met.S.Space.metric s) n.state m c.args.spot c.steiner.result t.answer (unchanged_by c.steiner.result n.state m t.unchanged) c.self.invariant).0

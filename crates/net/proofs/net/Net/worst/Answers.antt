@@ -1,26 +1,35 @@
-use Rattle.std.proofs.Common.{◌≡◌, subst}
-use Rattle.net_laws.specs.Readings.{WorstOf}
+use Rattle.std.proofs.Common.{Option, ap, subst, rules}
+use Rattle.net_laws.specs.Sinks.{Sink}
+use Rattle.net_laws.specs.Worsts.{worst_before}
+use Rattle.net_laws.specs.declared.reading.Worst.{Worst}
+use Rattle.net_lemmas.proofs.Moves.{not_none}
+use Rattle.net_laws.proofs.Worsts.{first_sink, some_sink, worst_own, worst_sink}
+use Rattle.order.specs.Bests.{BestOf}
 use Rattle.span.specs.Lengths.{length_of}
-use Rattle.net.specs.Nets.{seen}
-use Rattle.net.specs.declared.board.Board.{Board}
-use Rattle.net.specs.declared.board.holding.Tree.TheVariants.{Standing}
-use Rattle.net.proofs.Moves.{not_none, stands}
-use Rattle.net.proofs.Worsts.{worst_own}
+use Rattle.tree.specs.Tables.{rows_of}
+use Rattle.net.specs.declared.net.Net.TheInside.{Inside}
 use Rattle.net.proofs.net.Net.worst.Goals as goal
+
+pub unwrap-requires : goal.unwrap-requires
+unwrap-requires g c =
+    let n = c.self.inside in
+    let d = length_of g.S.Space n.space in
+    let rows = rows_of c.in_ok-tree.tree.now in
+    let st = c.in_ok-tree.ensures.some in
+    let pins = ap (λ (x : Inside g.row.S.Denot). x.state.pins) c.self-inside.view_is in
+    let (_, found, first) = c.first_found.ensures in
+    some_sink d n.state rows (c.self.invariant.rows rows st).two c.first_found.result
+    (first_sink d n.state rows _ c.first_found.result pins found first (λ k r h p. search rules))
 
 pub returns : goal.returns
 returns g c =
     let n = c.self.inside in
     let s = n.space in
-    let b = n.board in
-    let t = c.in_ok-standing.field-0.table.now in
-    let rows = t.rows in
-    let e = c.in_ok-standing.ensures.some in
-    let Up : Board → Type 0 = λ x. x.tree ≡ Standing t in
-    let Worst : Board → Type 0 = λ x. WorstOf (length_of g.S.Space s) (seen x) rows c.worst.result in
-    let st = stands b t (subst Up e c.in_ok-standing.field-0.stands) in
-    let w = subst Worst e c.worst.ensures in
-    record {
-      always = rw (← c.self.view_is) (not_none (seen b).tree rows st, (rows, st, w));
-      answer = rw (← c.self.view_is) (not_none (seen b).tree rows st, (rows, st, worst_own g.S.Space s (seen b) (g.met.S.Space.metric s) c.self.invariant rows c.worst.result w));
-    }
+    let d = length_of g.S.Space s in
+    let rows = rows_of c.in_ok-tree.tree.now in
+    let st = c.in_ok-tree.ensures.some in
+    let pins = ap (λ (x : Inside g.row.S.Denot). x.state.pins) c.self-inside.view_is in
+    let (_, found, first) = c.first_found.ensures in
+    let Best : Option Worst → Type 0 = λ o. BestOf worst_before (Sink d n.state rows) o in
+    let best = subst Best c.unwrap.ensures (first_sink d n.state rows _ c.first_found.result pins found first (λ k r h p. search rules)) in
+    rw (← c.self.view_is) (not_none n.state.tree rows st, (rows, st, worst_own g.S.Space s n.state (g.met.S.Space.metric s) c.self.invariant rows c.unwrap.result (worst_sink d n.state rows c.unwrap.result best)))

@@ -1,0 +1,58 @@
+-- What the parts of a net's state hold, and what its private calls answer. `d` is the distance of two spots, and `j o a b` the meet of a and b seen
+-- from o. Assumes nothing.
+use Rattle.std.specs.Prelude.{◌≡◌, ℕ, ◌+◌, ◌≤◌, Bool, true, false, List, length, Some, None, Ok, Err, Option, Result}
+use Rattle.build_laws.specs.Joining.{Joins}
+use Rattle.joined.specs.Joinings.{Joinable}
+use Rattle.net_laws.specs.Answers.{Stands, accepts, asks}
+use Rattle.net_laws.specs.States.{State, with_tree}
+use Rattle.net_laws.specs.declared.fault.Fault.{Fault}
+use Rattle.space.specs.declared.spot.Spot.{Spot}
+use Rattle.straight.specs.Built.{Straightened}
+use Rattle.tree.specs.Tables.{rows_of}
+use Rattle.tree.specs.declared.table.Table.{Table}
+use Rattle.tree_laws.specs.Trees.{wire_of}
+use Rattle.tree_laws.specs.declared.Row.{Row}
+use Rattle.walk.specs.declared.allowance.Allowance.{Allowance}
+
+-- The allowance p/q, if one is set.
+abbrev pub ratio_of : Option Allowance → Option (ℕ × ℕ)
+ratio_of None = None
+ratio_of (Some a) = Some (a.p, a.q)
+
+-- The rows of the table, if they stand as the tree.
+abbrev pub standing : Bool → Table → Option (List Row)
+standing true t = Some (rows_of t)
+standing false t = None
+
+-- The check of Q answers r: where Q does not hold, it refuses by e.
+abbrev pub Checked : {F : Type 0} → (Q : Type 0) → (e : F) → Result (Unit {0}) F → Type 0
+Checked Q e (Ok u) = Q
+Checked Q e (Err f) = (Q → ⊥) × (f ≡ e)
+
+-- What both builds ask, and the allowance that they build by.
+abbrev pub ReadyAnswer : State → Result Allowance Fault → Type 0
+ReadyAnswer n =
+    asks 6 (2 ≤ n.pins) (asks 11 ((n.allowance ≡ None) → ⊥) (asks 12 (length n.edges + 1 ≡ length n.spots)
+    (accepts (λ a. n.allowance ≡ Some (a.p, a.q)))))
+
+-- The straight tree of n by the allowance a was built: its breakpoints are listed and can be joined, its wire is w, and it stands in m.
+pub record Straightens (d : Spot → Spot → ℕ) (a : Allowance) (n : State) (listed : List ℕ) (w : ℕ) (m : State) : Type 0 where
+  pub rows : List Row
+  pub straight : Straightened d n.spots a.p a.q n.pins (length n.spots) n.edges listed w rows
+  pub joinable : Joinable rows listed
+  pub stands : m ≡ with_tree n rows
+
+-- A tree stands, and the members are rows of it that can be joined.
+pub record JoinableIn (n : State) (members : List ℕ) : Type 0 where
+  pub rows : List Row
+  pub stands : Stands n rows
+  pub joinable : Joinable rows members
+
+-- The members were joined pair after pair: the tree of m came of that of n, and its wire is w.
+pub record JoinsIn (d : Spot → Spot → ℕ) (j : Spot → Spot → Spot → Spot) (n : State) (members : List ℕ) (w : ℕ) (m : State) : Type 0 where
+  pub rows : List Row
+  pub after : List Row
+  pub stood : Stands n rows
+  pub joins : Joins d j rows members after
+  pub wire : w ≡ wire_of after
+  pub stands : m ≡ with_tree n after

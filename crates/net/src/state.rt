@@ -1,0 +1,301 @@
+// What a net holds but its space, and the calls on it. They go by distances made total; the net, which is tied to its space, answers by the space's own.
+ghost use Rattle.std.specs.Prelude.{◌≡◌, ◌+◌, ◌<◌, ◌≤◌, ℕ, true, length, vec_capacity, is_err, IfOk, IfErr, None, Some, IsTrue, ◌↔◌};
+ghost use Rattle.forest.specs.Edges.{Joined, wire};
+ghost use Rattle.net.specs.declared.state.TheConstants.{PINS, POINTS};
+ghost use Rattle.net.specs.Held.{Checked, JoinableIn, JoinsIn, ReadyAnswer, Straightens};
+ghost use Rattle.net_laws.specs.Answers.{EdgeAnswer, HookAnswer, PinAnswer, ShareAnswer, SteinerAnswer};
+ghost use Rattle.net_laws.specs.States.{fresh, unseeded, with_allowance, with_edge, with_pin, with_point, with_seed};
+ghost use Rattle.net_laws.specs.Worlds.{cut, joining, wiring};
+ghost use Rattle.net_laws.specs.declared.fault.Fault.TheVariants.{NoTree, TooFewPins};
+ghost use Rattle.seed.specs.Seeds.{nodes_of};
+ghost use Rattle.share.specs.Shares.{join_of};
+ghost use Rattle.space.specs.declared.TheConstants.{LONGEST};
+ghost use Rattle.span.specs.Lengths.{lengths, spot_of};
+ghost use Rattle.span.specs.Spanning.{Spanning};
+ghost use Rattle.tree.specs.Hooks.{reach_of};
+ghost use Rattle.tree.specs.Tables.{rows_of};
+
+use joined::Joiner;
+use net_laws::{Fault, SpaceFault};
+use seed::Seed;
+use share::share_best;
+use space::{Joining, LONGEST, Space, Spot};
+use span::Spanner;
+use std::alloc::{AllocError, Global};
+use std::marker::Model;
+use straight::Builder;
+use tree::{Table, hook_best, reach};
+use walk::Allowance;
+
+/// The most pins that a net can have.
+pub(crate) const PINS: usize = 256;
+
+/// The most Steiner points that a net can have.
+pub(crate) const POINTS: usize = 256;
+
+/// The spots of the nodes, pins first and then Steiner points; how many of them are pins; the allowance; the edges; and the tree. Where none
+/// stands, the table is for the next, and its memory stays reserved.
+#[derive(Drop)]
+pub(crate) struct NetState {
+    pub(crate) spots: Vec<Spot>,
+    pub(crate) pins: usize,
+    allowance: Option<Allowance>,
+    seed: Seed,
+    table: Table,
+    stands: bool,
+    ghost room: { PINS + POINTS ≤ vec_capacity spots },
+    ghost first: { pins ≤ length spots.items },
+    ghost few: { pins ≤ PINS },
+    ghost points: { length spots.items ≤ pins + POINTS },
+    ghost nodes: { nodes_of seed ≡ length spots.items },
+}
+
+impl Model for NetState {
+    ghost use Rattle.net_laws.specs.States.{State};
+
+    ghost Value = { State };
+
+    ghost use Rattle.net.specs.Held.{ratio_of, standing};
+    ghost use Rattle.seed.specs.Seeds.{edges_of};
+
+    ghost view = { λ n. record { spots = n.spots.items; pins = n.pins; allowance = ratio_of n.allowance; edges = edges_of n.seed; tree = standing n.stands n.table } };
+}
+
+/// Whether each of the pins is at least 1 away from `spot`.
+fn apart<S: Space>(space: &S, pins: &[Spot], spot: Spot) -> bool
+    ensures { IsTrue result ↔ ((k : ℕ) → k < length pins.now → 1 ≤ reach_of S.Space space.now (spot_of pins.now k) spot) }
+{
+    pins.iter().all(|pin| reach(space, *pin, spot) != 0)
+}
+
+impl NetState {
+    /// A state without nodes.
+    pub(crate) fn new(heap: Global) -> Result<NetState, AllocError>
+        ensures { IfOk result (λ n. n ≡ fresh) }
+    {
+        let spots = Vec::with_capacity(heap, PINS + POINTS)?;
+        let seed = Seed::new(heap)?;
+        let table = Table::new(heap, Spot::default())?;
+        Ok(NetState {
+            spots,
+            pins: 0,
+            allowance: None,
+            seed,
+            table,
+            stands: false,
+        })
+    }
+
+    /// Refuses where there are fewer than two pins.
+    pub(crate) fn paired(&self) -> Result<(), Fault>
+        ensures { Checked (2 ≤ self.now.pins) TooFewPins result }
+    {
+        (self.pins >= 2).then_some(()).ok_or(Fault::TooFewPins)
+    }
+
+    /// Adds a pin in place of Steiner points, edges and tree, and answers its number.
+    fn add_pin(&mut self, spot: Spot) -> usize
+        requires { self.old.pins < PINS }
+        ensures number { result ≡ self.old.pins }
+        ensures added { self.new ≡ with_pin self.old spot }
+    {
+        let pin = self.pins;
+        self.spots.truncate(pin);
+        self.spots.push_reserved(spot);
+        self.seed.restart(pin + 1).unwrap();
+        self.pins = pin + 1;
+        self.stands = false;
+        pin
+    }
+
+    /// Adds a pin, where the space admits it and it is apart from the others.
+    pub(crate) fn pin<S: Space>(&mut self, space: &S, spot: Spot) -> Result<usize, Fault>
+        ensures answer { PinAnswer (cut (wiring S.Space space.now)) self.old self.new spot result }
+        ensures unchanged { is_err result ≡ true → self.new ≡ self.old }
+    {
+        if space.widest() > LONGEST {
+            return Err(Fault::Space(SpaceFault::TooWide));
+        }
+        if !space.admits(spot) {
+            return Err(Fault::Space(SpaceFault::NotAdmitted));
+        }
+        if self.pins >= PINS {
+            return Err(Fault::TooManyPins);
+        }
+        if !apart(space, &self.spots[..self.pins], spot) {
+            return Err(Fault::TooClose);
+        }
+        Ok(self.add_pin(spot))
+    }
+
+    /// Sets the allowance and drops the tree.
+    pub(crate) fn allow(&mut self, allowance: Allowance)
+        ensures { self.new ≡ with_allowance self.old allowance.p allowance.q }
+    {
+        self.allowance = Some(allowance);
+        self.stands = false;
+    }
+
+    /// Adds a Steiner point, drops the tree, and answers the point's number.
+    fn add_point(&mut self, spot: Spot) -> usize
+        requires { length self.old.spots < self.old.pins + POINTS }
+        ensures number { result ≡ length self.old.spots }
+        ensures added { self.new ≡ with_point self.old spot }
+    {
+        let point = self.spots.len();
+        self.spots.push_reserved(spot);
+        self.seed.add_node().unwrap();
+        self.stands = false;
+        point
+    }
+
+    /// Adds a Steiner point, where the space admits it.
+    pub(crate) fn steiner<S: Space>(&mut self, space: &S, spot: Spot) -> Result<usize, Fault>
+        ensures answer { SteinerAnswer (cut (wiring S.Space space.now)) self.old self.new spot result }
+        ensures unchanged { is_err result ≡ true → self.new ≡ self.old }
+    {
+        self.paired()?;
+        if !space.admits(spot) {
+            return Err(Fault::Space(SpaceFault::NotAdmitted));
+        }
+        if self.spots.len() >= self.pins + POINTS {
+            return Err(Fault::TooManyPoints);
+        }
+        Ok(self.add_point(spot))
+    }
+
+    /// Adds an edge and drops the tree.
+    fn add_edge(&mut self, a: usize, b: usize, long: u64)
+        requires one { a < length self.old.spots }
+        requires other { b < length self.old.spots }
+        requires open { Joined self.old.edges a b → ⊥ }
+        requires fit { (0 < long) × (long ≤ LONGEST) }
+        ensures { self.new ≡ with_edge self.old a b long }
+    {
+        self.seed.join(a, b, long).unwrap();
+        self.stands = false;
+    }
+
+    /// Adds an edge between two nodes that no path of edges joins, and answers its length.
+    pub(crate) fn edge<S: Space>(&mut self, space: &S, a: usize, b: usize) -> Result<u64, Fault>
+        ensures answer { EdgeAnswer (cut (wiring S.Space space.now)) self.old self.new a b result }
+        ensures unchanged { is_err result ≡ true → self.new ≡ self.old }
+    {
+        self.paired()?;
+        let nodes = self.spots.len();
+        if a >= nodes || b >= nodes {
+            return Err(Fault::NoNode);
+        }
+        if self.seed.joined(a, b) {
+            return Err(Fault::Joined);
+        }
+        let length = reach(space, self.spots[a], self.spots[b]);
+        if length == 0 {
+            return Err(Fault::NoLength);
+        }
+        self.add_edge(a, b, length);
+        Ok(length)
+    }
+
+    /// Drops the Steiner points, the edges and the tree.
+    pub(crate) fn unseed(&mut self)
+        ensures { self.new ≡ unseeded self.old }
+    {
+        self.spots.truncate(self.pins);
+        self.seed.restart(self.pins).unwrap();
+        self.stands = false;
+    }
+
+    /// Grows the spanning seed of the pins in place of Steiner points, edges and tree, and answers its wire.
+    pub(crate) fn span<S: Space>(&mut self, space: &S, spanner: &mut Spanner) -> u64
+        requires { 2 ≤ self.old.pins }
+        ensures spans { Spanning self.old.pins (lengths S.Space space.now self.old.spots) self.new.edges }
+        ensures wire { result ≡ wire self.new.edges }
+        ensures grown { self.new ≡ with_seed self.old self.new.edges }
+    {
+        self.spots.truncate(self.pins);
+        self.stands = false;
+        // The call is not refused here; `unwrap` would have that proved once more, beside the answer.
+        spanner
+            .grow(space, self.spots.as_slice(), &mut self.seed)
+            .unwrap_or(0)
+    }
+
+    /// The tree, where one stands.
+    pub(crate) fn tree(&self) -> Result<&Table, Fault>
+        ensures some { IfOk result (λ t. self.now.tree ≡ Some (rows_of t.now)) }
+        ensures none { IfErr result (λ e. (e ≡ NoTree) × (self.now.tree ≡ None)) }
+    {
+        if !self.stands {
+            return Err(Fault::NoTree);
+        }
+        Ok(&self.table)
+    }
+
+    /// The allowance, where a tree can be built.
+    pub(crate) fn ready(&self) -> Result<Allowance, Fault>
+        ensures { ReadyAnswer self.now result }
+    {
+        self.paired()?;
+        let allowance = self.allowance.ok_or(Fault::NoAllowance)?;
+        if !self.seed.tree() {
+            return Err(Fault::NoSeed);
+        }
+        Ok(allowance)
+    }
+
+    /// Builds the straight tree and answers its wire.
+    pub(crate) fn straight<S: Space>(
+        &mut self,
+        space: &S,
+        builder: &mut Builder,
+        allowance: Allowance,
+    ) -> u64
+        requires { length self.old.edges + 1 ≡ length self.old.spots }
+        ensures { Straightens (reach_of S.Space space.now) allowance self.old builder.new.broken.items result self.new }
+    {
+        let spots = self.spots.as_slice();
+        let table = &mut self.table;
+        let wire = builder.straight(space, spots, self.pins, allowance, &self.seed, table);
+        self.stands = true;
+        // The call is not refused here; `unwrap` would have that proved once more, beside the answer.
+        wire.unwrap_or(0)
+    }
+
+    /// Joins rows on the driver, pair after pair, and answers the wire of the tree.
+    pub(crate) fn join<S: Joining>(
+        &mut self,
+        space: &S,
+        joiner: &mut Joiner,
+        members: &[usize],
+    ) -> u64
+        requires { JoinableIn self.old members.now }
+        ensures { JoinsIn (reach_of S.Space space.now) (join_of S.Space S.Joining.own space.now) self.old members.now result self.new }
+    {
+        // The call is not refused here; `unwrap` would have that proved once more, beside the answer.
+        joiner.join(space, &mut self.table, members).unwrap_or(0)
+    }
+
+    /// Makes the best hook move of the tree and answers what it saves.
+    pub(crate) fn hook<S: Space>(&mut self, space: &S) -> Result<u64, Fault>
+        ensures answer { HookAnswer (cut (wiring S.Space space.now)) self.old self.new result }
+        ensures unchanged { is_err result ≡ true → self.new ≡ self.old }
+    {
+        if !self.stands {
+            return Err(Fault::NoTree);
+        }
+        let saving = hook_best(space, &mut self.table).ok_or(Fault::NoMove)?;
+        Ok(saving)
+    }
+
+    /// Makes the best share move of the tree and answers what it saves.
+    pub(crate) fn share<S: Joining>(&mut self, space: &S) -> Result<u64, Fault>
+        ensures answer { ShareAnswer (cut (joining S.Space S.Joining.own space.now)) self.old self.new result }
+        ensures unchanged { is_err result ≡ true → self.new ≡ self.old }
+    {
+        if !self.stands {
+            return Err(Fault::NoTree);
+        }
+        Ok(share_best(space, &mut self.table)?)
+    }
+}

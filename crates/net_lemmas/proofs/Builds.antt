@@ -1,0 +1,130 @@
+-- The breakpoints of a straight tree are rows on the driver that can be joined, and what the two builds answer. Assumes nothing.
+use Rattle.std.proofs.Common.{◌≡◌, ℕ, zero, suc, ◌+◌, ◌<◌, ◌≤◌, Bool, true, false, cond, ◌||◌, eqb, List, [], ◌∷◌, ◌++◌, length, get_or, Some, None, Ok, Option, sym, refl, ap, ◌∙◌, subst, ⊎_elim, arith}
+use Rattle.std.proofs.lemmas.List.{append-nil, get_or_append_left, get_or_push, length_push}
+use Rattle.std.proofs.lemmas.Bool.{cases_Bool, cases_eq, cond-false, cond-true}
+use Rattle.std.specs.Option.{unwrap_or}
+use Rattle.build_laws.specs.Joining.{Joins, far_of, meet_of, meet_row}
+use Rattle.build_laws.specs.Joining.Joins.{done, join}
+use Rattle.build_laws.specs.Straight.{straight}
+use Rattle.build_laws.proofs.Building.{straight_length, straight_row_lem}
+use Rattle.forest.specs.declared.Edge.{Edge}
+use Rattle.joined.proofs.Keeping.{among_here}
+use Rattle.joined.specs.Joinings.{Joinable, JoinedBy, Whole}
+use Rattle.net_laws.specs.Answers.{JoinedTree, StraightTree, breakpoints, broken_if, marks_of, rules_of}
+use Rattle.order.specs.Firsts.{Among}
+use Rattle.space.specs.declared.Joining.{Ghosts as JoinGhosts}
+use Rattle.space.specs.declared.Space.{Ghosts}
+use Rattle.space.specs.declared.spot.Spot.{Spot}
+use Rattle.span.specs.Lengths.{spot_of as spot_at}
+use Rattle.straight.specs.Built.{StraightBy, Straightened, breakpoints_of}
+use Rattle.straight.proofs.Mixed.{among_breakpoints}
+use Rattle.tree.specs.Tables.{rows_of}
+use Rattle.tree.specs.declared.table.Table.{Table as Tree-table}
+use Rattle.tree_laws.specs.Trees.{add, hang, spot_of, up}
+use Rattle.tree_laws.specs.declared.Row.{Row}
+use Rattle.tree_laws.proofs.Adding.{add_length}
+use Rattle.tree_laws.proofs.Hanging.{hang_length}
+use Rattle.walk_laws.specs.Walk.{Rules, Table}
+
+pub straight_count : (R : Rules) (place : ℕ → Spot) (n : ℕ) (E : List Edge) (found : List ℕ) (w : ℕ) (rows : List Row) → StraightBy R place n E found w rows → length rows ≡ n
+straight_count R place n E found w rows s = ap length s.rows ∙ straight_length R s.marks place n
+
+abbrev Rising : List ℕ → Type 0
+Rising xs = (i : ℕ) → i + 1 < length xs → get_or xs i 0 < get_or xs (i + 1) 0
+
+module _ (S : Table) where
+  -- the list goes on with n, or stays
+  more : (n : ℕ) → (S n).broken ≡ true → breakpoints_of S (suc n) ≡ breakpoints_of S n ++ n ∷ []
+  more n b = cond-true (S n).broken (breakpoints_of S n ++ n ∷ []) (breakpoints_of S n) b
+
+  same : (n : ℕ) → (S n).broken ≡ false → breakpoints_of S (suc n) ≡ breakpoints_of S n
+  same n b = cond-false (S n).broken (breakpoints_of S n ++ n ∷ []) (breakpoints_of S n) b
+
+  pub breakpoints_listed : (n : ℕ) → breakpoints_of S n ≡ breakpoints S n
+  breakpoints_listed zero = refl
+  breakpoints_listed (suc n) = ap (λ xs. cond (S n).broken (xs ++ n ∷ []) xs) (breakpoints_listed n) ∙ by (S n).broken (breakpoints S n)
+    where
+      by : (b : Bool) (xs : List ℕ) → cond b (xs ++ n ∷ []) xs ≡ xs ++ broken_if b n
+      by true xs = refl
+      by false xs = sym (append-nil xs)
+
+  few : (n k : ℕ) → ((v : ℕ) → v < n → (S v).broken ≡ true → v < k) → (length (breakpoints_of S n) ≤ n) × (length (breakpoints_of S n) ≤ k)
+  few zero k h = (omega arith, omega arith)
+  few (suc n) k h =
+      let r = few n k (λ v l b. h v (omega arith) b) in
+      ⊎_elim
+      (λ (b : (S n).broken ≡ true).
+      let l : n < k = h n (omega arith) b in
+      let e = ap length (more n b) ∙ length_push (breakpoints_of S n) n in
+      (omega (arith, e, r.0), omega (arith, e, r.0)))
+      (λ (b : (S n).broken ≡ false). let e = ap length (same n b) in (omega (arith, e, r.0), omega (arith, e, r.1)))
+      (cases_Bool (S n).broken)
+
+  rising_push : (xs : List ℕ) (n : ℕ) → ((v : ℕ) → Among v xs → v < n) → Rising xs → Rising (xs ++ n ∷ [])
+  rising_push xs n below r i h =
+      let long = length_push xs n in
+      let first : get_or (xs ++ n ∷ []) i 0 ≡ get_or xs i 0 = get_or_append_left xs (n ∷ []) 0 i (omega (arith, long)) in
+      ⊎_elim
+      (λ (e : i + 1 ≡ length xs).
+      let at : Among (get_or xs i 0) xs = among_here xs i 0 (omega arith) in
+      omega (arith, first, get_or_push xs n 0 (i + 1) (sym e), below (get_or xs i 0) at))
+      (λ (ne : i + 1 ≡ length xs → ⊥).
+      let l : i + 1 < length xs = omega (arith, long) in
+      omega (arith, first, get_or_append_left xs (n ∷ []) 0 (i + 1) l, r i l))
+      (cases_eq (i + 1) (length xs))
+
+  rising : (n : ℕ) → Rising (breakpoints_of S n)
+  rising zero i h = absurd (none i h)
+    where
+      none : (i : ℕ) → i + 1 < 0 → ⊥
+      none i h = omega arith
+  rising (suc n) i h =
+      ⊎_elim
+      (λ (b : (S n).broken ≡ true). subst Rising (sym (more n b)) (rising_push (breakpoints_of S n) n (λ v a. (among_breakpoints S n v a).0) (rising n)) i h)
+      (λ (b : (S n).broken ≡ false). subst Rising (sym (same n b)) (rising n) i h)
+      (cases_Bool (S n).broken)
+
+pub straight_joinable : (R : Rules) (place : ℕ → Spot) (n : ℕ) (E : List Edge) (found : List ℕ) (w : ℕ) (rows : List Row) → StraightBy R place n E found w rows → n + R.pins ≤ 768 → Joinable rows found
+straight_joinable R place n E found w rows s room =
+    let S = s.marks in
+    let sinks = s.walked.keeps.sinks in
+    let count = straight_count R place n E found w rows s in
+    let Q : ℕ → List ℕ → Type 0 = λ g xs. Among g xs in
+    record {
+      rising = subst Rising (sym s.broken) (rising S n);
+      hung = λ g a.
+          let f = among_breakpoints S n g (subst (Q g) s.broken a) in
+          let k = sinks g f.0 f.1 in
+          record {
+            row = omega (arith, count, f.0);
+            moves = λ z. omega (arith, k.0);
+            parent = ap (λ (xs : List Row). up xs g) s.rows ∙ ap (λ (r : Row). r.parent) (straight_row_lem R S place n g f.0) ∙ on_driver (eqb g 0) (S g).broken (S g).parent f.1;
+          };
+      room = omega (arith, count, ap length s.broken, (few S n R.pins (λ v l b. (sinks v l b).1)).1);
+    }
+  where
+    on_driver : (x b : Bool) (u : ℕ) → b ≡ true → cond (x || b) 0 u ≡ 0
+    on_driver true b u e = refl
+    on_driver false b u e = cond-true b 0 u e
+
+-- a group that can be joined is joined
+pub joined_some : {X : Type 0} (G : Ghosts X) (J : JoinGhosts X) (s : X) (t₀ : Tree-table) (group : List ℕ) (r : Option ℕ) (t : Tree-table) → JoinedBy G J s t₀ group r t → Joinable (rows_of t₀) group → Whole G J s (rows_of t₀) group (unwrap_or r 0) (rows_of t)
+joined_some G J s t₀ group None t h j = absurd (h.0 j)
+joined_some G J s t₀ group (Some w) t h j = h
+
+-- what the builder made is the straight tree
+pub straight_tree : (d : Spot → Spot → ℕ) (spots : List Spot) (pins p q : ℕ) (E : List Edge) (found : List ℕ) (w : ℕ) (rows : List Row) → Straightened d spots p q pins (length spots) E found w rows → StraightTree d spots pins p q E rows
+straight_tree d spots pins p q E found w rows h =
+    record { planted = h.walked.planted; built = h.rows ∙ ap (λ S. straight (rules_of d spots pins p q) S (spot_at spots) (length spots)) h.walked.is }
+
+-- what the joiner made of it is the joined tree
+pub joined_tree : (d : Spot → Spot → ℕ) (m : Spot → Spot → Spot → Spot) (spots : List Spot) (pins p q : ℕ) (E : List Edge) (found : List ℕ) (w : ℕ) (rows after : List Row) → Straightened d spots p q pins (length spots) E found w rows → Joins d m rows found after → JoinedTree d m spots pins p q E after
+joined_tree d m spots pins p q E found w rows after h j =
+    let Q : List ℕ → Type 0 = λ xs. Joins d m rows xs after in
+    let e : found ≡ breakpoints (marks_of d spots pins p q E h.walked.planted) (length spots) =
+    h.broken ∙ ap (λ S. breakpoints_of S (length spots)) h.walked.is ∙ breakpoints_listed (marks_of d spots pins p q E h.walked.planted) (length spots) in
+    record {
+      unjoined = rows;
+      straight = record { planted = h.walked.planted; built = h.rows ∙ ap (λ S. straight (rules_of d spots pins p q) S (spot_at spots) (length spots)) h.walked.is };
+      joins = subst Q e j;
+    }

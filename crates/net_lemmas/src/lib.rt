@@ -1,0 +1,3 @@
+//! What the builders and the moves answer, as what a net answers: lemmas.
+
+#![tactic(auto)]
