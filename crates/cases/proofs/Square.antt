@@ -6,7 +6,7 @@ use Rattle.seed.specs.declared.store.SeedFault.{SeedFault}
 use Rattle.seed.specs.declared.store.SeedFault.TheVariants as fault
 use Rattle.seed.specs.declared.store.Seed.{Seed}
 use Rattle.span.specs.Grown.{Grown}
-use Rattle.space.specs.contracts.plane.PlaneSpace.TheImpl as planeSpace
+use Rattle.built_spaces.specs.contracts.plane.PlaneSpace.TheImpl as planeSpace
 use Rattle.space.specs.Spots.{spot_of}
 use Rattle.span.specs.Lengths.{Pinned, distance_of}
 use Rattle.span_laws.specs.Spanning.{Spanning, Steps}

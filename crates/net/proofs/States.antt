@@ -13,22 +13,20 @@ use Rattle.net_laws.specs.Worlds.{cut, joining, wiring}
 use Rattle.net_laws.specs.declared.fault.Fault.TheVariants.{TooClose}
 use Rattle.net_lemmas.proofs.Builds.{joined_tree, straight_tree}
 use Rattle.net_lemmas.proofs.Moves.{only}
-use Rattle.seed.specs.Seeds.{edges_of, nodes_of}
-use Rattle.seed.specs.declared.store.Refusal.{Refusal}
-use Rattle.seed.specs.declared.store.Refusal.TheVariants as refusal
+use Rattle.seed.specs.declared.store.SeedFault.{Refusal}
+use Rattle.seed.specs.declared.store.SeedFault.TheVariants as refusal
 use Rattle.seed.specs.declared.store.Seed.{Seed}
-use Rattle.share.specs.Shares.{join_of}
+use Rattle.tree_laws.specs.Distances.{join_of, reach_of}
 use Rattle.space.specs.Laws.{answered, limit}
 use Rattle.space.specs.declared.Joining.{Ghosts as JoinGhosts}
 use Rattle.space.specs.declared.Space.{Ghosts}
 use Rattle.space.specs.declared.spot.Spot.{Spot}
 use Rattle.span.specs.Grown.{Grown, Spanned}
-use Rattle.span.specs.Lengths.{length_of, lengths, origin, spot_of}
-use Rattle.span.specs.Spanning.{Spanning}
-use Rattle.span.proofs.Steps.{spanning_agrees}
+use Rattle.span.specs.Lengths.{length_of, lengths}
+use Rattle.space.specs.Spots.{origin, spot_of}
+use Rattle.span_laws.specs.Spanning.{Spanning}
+use Rattle.span_laws.proofs.Steps.{spanning_agrees}
 use Rattle.straight.specs.Built.{Answer, Matches, Straightened}
-use Rattle.tree.specs.Hooks.{reach_of}
-use Rattle.tree.specs.Tables.{rows_of}
 use Rattle.tree.specs.declared.table.Table.{Table}
 use Rattle.tree_laws.specs.Trees.{path_length}
 use Rattle.tree_laws.specs.declared.Row.{Row}
@@ -36,7 +34,7 @@ use Rattle.walk.specs.declared.allowance.Allowance.{Allowance}
 use Rattle.net.specs.Held.{JoinsIn, ReadyAnswer, Straightens, standing}
 
 -- where the rows stand, they are those of the table
-pub stood : (b : Bool) (t : Table) (rows : List Row) → standing b t ≡ Some rows → (b ≡ true) × (rows ≡ rows_of t)
+pub stood : (b : Bool) (t : Table) (rows : List Row) → standing b t ≡ Some rows → (b ≡ true) × (rows ≡ t.rows)
 stood true t rows e = (refl, cc)
 stood false t rows e = let z : ◌≡◌ {A = ℕ} 0 1 = cc in absurd (omega arith)
 
@@ -73,12 +71,12 @@ first_span G s spots front n e h E w =
     here u a = rw get_or-take
 
 -- of a seed that is a tree with a spot for each node, a tree is built
-pub straightened : {X : Type 0} (G : Ghosts X) (s : X) (t₀ : Table) (before : List ℕ) (spots all : List Spot) (p q pins : ℕ) (seed : Seed) (found : List ℕ) (r : Option ℕ) (t : Table) → Answer G s t₀ before spots p q pins seed found r t → spots ≡ all → Matches seed all → (w : ℕ) → w ≡ unwrap_or r 0 → Straightened (reach_of G s) all p q pins (length all) (edges_of seed) found w (rows_of t)
+pub straightened : {X : Type 0} (G : Ghosts X) (s : X) (t₀ : Table) (before : List ℕ) (spots all : List Spot) (p q pins : ℕ) (seed : Seed) (found : List ℕ) (r : Option ℕ) (t : Table) → Answer G s t₀ before spots p q pins seed found r t → spots ≡ all → Matches seed all → (w : ℕ) → w ≡ unwrap_or r 0 → Straightened (reach_of G s) all p q pins (length all) seed.edges found w t.rows
 straightened G s t₀ before spots all p q pins seed found None t h e m w v = let M : List Spot → Type 0 = λ xs. Matches seed xs in absurd (h.0 (subst M (sym e) m))
 straightened G s t₀ before spots all p q pins seed found (Some x) t h e m w v =
-    let S : List Spot → Type 0 = λ xs. Straightened (reach_of G s) xs p q pins (nodes_of seed) (edges_of seed) found x (rows_of t) in
-    let N : ℕ → Type 0 = λ n. Straightened (reach_of G s) all p q pins n (edges_of seed) found x (rows_of t) in
-    let W : ℕ → Type 0 = λ k. Straightened (reach_of G s) all p q pins (length all) (edges_of seed) found k (rows_of t) in
+    let S : List Spot → Type 0 = λ xs. Straightened (reach_of G s) xs p q pins seed.nodes seed.edges found x t.rows in
+    let N : ℕ → Type 0 = λ n. Straightened (reach_of G s) all p q pins n seed.edges found x t.rows in
+    let W : ℕ → Type 0 = λ k. Straightened (reach_of G s) all p q pins (length all) seed.edges found k t.rows in
     subst W (sym v) (subst N m.1 (subst S e h.1))
 
 -- what a build of a state that is ready answers

@@ -8,7 +8,6 @@ use Rattle.net_laws.specs.States.{State, with_tree}
 use Rattle.net_laws.specs.declared.fault.Fault.{Fault}
 use Rattle.space.specs.declared.spot.Spot.{Spot}
 use Rattle.straight.specs.Built.{Straightened}
-use Rattle.tree.specs.Tables.{rows_of}
 use Rattle.tree.specs.declared.table.Table.{Table}
 use Rattle.tree_laws.specs.Trees.{wire_of}
 use Rattle.tree_laws.specs.declared.Row.{Row}
@@ -21,7 +20,7 @@ ratio_of (Some a) = Some (a.p, a.q)
 
 -- The rows of the table, if they stand as the tree.
 abbrev pub standing : Bool → Table → Option (List Row)
-standing true t = Some (rows_of t)
+standing true t = Some t.rows
 standing false t = None
 
 -- The check of Q answers r: where Q does not hold, it refuses by e.

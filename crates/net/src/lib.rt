@@ -7,5 +7,6 @@ mod state;
 
 pub use net::Net;
 pub use net_laws::{Call, Fault, JoinCall, Layer, Reach, SpaceFault, Worst};
-pub use space::{Air, Joining, Lift, Plane, Space, Spot};
+pub use built_spaces::{Air, Lift, Plane};
+pub use space::{Joining, Space, Spot};
 pub use tree_laws::Row;

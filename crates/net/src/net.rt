@@ -9,12 +9,11 @@ ghost use Rattle.net_laws.specs.declared.call.Call.TheVariants.{Edge as EdgeCall
 ghost use Rattle.net_laws.specs.declared.call.JoinCall.TheVariants.{Joined as JoinedCall, Share as ShareCall};
 ghost use Rattle.order.specs.Bests.{BestOf};
 ghost use Rattle.span.specs.Lengths.{length_of};
-ghost use Rattle.tree.specs.Tables.{rows_of};
 
 use crate::state::NetState;
 use joined::Joiner;
 use net_laws::{Fault, Reach, Worst};
-use order::first_found;
+use search::first_found;
 use space::{Joining, Space, Spot};
 use span::{Spanner, length_between};
 use std::alloc::{AllocError, Global};
@@ -187,8 +186,8 @@ impl<S: Space> Net<S> {
     /// 1000 times the path of the pin `k` by its direct distance, the fraction dropped.
     fn figure(&self, tree: &Table, k: usize) -> u64
         requires pin { k < self.now.state.pins }
-        requires stands { self.now.state.tree ≡ Some (rows_of tree.now) }
-        ensures { result ≡ figure_of (length_of S.Space self.now.space) self.now.state (rows_of tree.now) k }
+        requires stands { self.now.state.tree ≡ Some tree.now.rows }
+        ensures { result ≡ figure_of (length_of S.Space self.now.space) self.now.state tree.now.rows k }
     {
         let direct = length_between(&self.space, self.state.spots[0], self.state.spots[k]);
         1000 * tree.path(k).unwrap_or(0) / direct
@@ -197,8 +196,8 @@ impl<S: Space> Net<S> {
     /// The pin `k` with its figure, where it is a sink.
     fn sink(&self, tree: &Table, k: usize) -> Option<Worst>
         requires pin { k < self.now.state.pins }
-        requires stands { self.now.state.tree ≡ Some (rows_of tree.now) }
-        ensures { BestOf worst_before (SinkAt (length_of S.Space self.now.space) self.now.state (rows_of tree.now) k) result }
+        requires stands { self.now.state.tree ≡ Some tree.now.rows }
+        ensures { BestOf worst_before (SinkAt (length_of S.Space self.now.space) self.now.state tree.now.rows k) result }
     {
         if k == 0 {
             return None;

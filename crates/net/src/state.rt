@@ -7,13 +7,11 @@ ghost use Rattle.net_laws.specs.Answers.{EdgeAnswer, HookAnswer, PinAnswer, Shar
 ghost use Rattle.net_laws.specs.States.{fresh, unseeded, with_allowance, with_edge, with_pin, with_point, with_seed};
 ghost use Rattle.net_laws.specs.Worlds.{cut, joining, wiring};
 ghost use Rattle.net_laws.specs.declared.fault.Fault.TheVariants.{NoTree, TooFewPins};
-ghost use Rattle.seed.specs.Seeds.{nodes_of};
-ghost use Rattle.share.specs.Shares.{join_of};
+ghost use Rattle.tree_laws.specs.Distances.{join_of, reach_of};
 ghost use Rattle.space.specs.declared.TheConstants.{LONGEST};
-ghost use Rattle.span.specs.Lengths.{lengths, spot_of};
-ghost use Rattle.span.specs.Spanning.{Spanning};
-ghost use Rattle.tree.specs.Hooks.{reach_of};
-ghost use Rattle.tree.specs.Tables.{rows_of};
+ghost use Rattle.span.specs.Lengths.{lengths};
+ghost use Rattle.space.specs.Spots.{spot_of};
+ghost use Rattle.span_laws.specs.Spanning.{Spanning};
 
 use joined::Joiner;
 use net_laws::{Fault, SpaceFault};
@@ -47,7 +45,7 @@ pub(crate) struct NetState {
     ghost first: { pins ≤ length spots.items },
     ghost few: { pins ≤ PINS },
     ghost points: { length spots.items ≤ pins + POINTS },
-    ghost nodes: { nodes_of seed ≡ length spots.items },
+    ghost nodes: { seed.nodes ≡ length spots.items },
 }
 
 impl Model for NetState {
@@ -56,9 +54,8 @@ impl Model for NetState {
     ghost Value = { State };
 
     ghost use Rattle.net.specs.Held.{ratio_of, standing};
-    ghost use Rattle.seed.specs.Seeds.{edges_of};
 
-    ghost view = { λ n. record { spots = n.spots.items; pins = n.pins; allowance = ratio_of n.allowance; edges = edges_of n.seed; tree = standing n.stands n.table } };
+    ghost view = { λ n. record { spots = n.spots.items; pins = n.pins; allowance = ratio_of n.allowance; edges = n.seed.edges; tree = standing n.stands n.table } };
 }
 
 /// Whether each of the pins is at least 1 away from `spot`.
@@ -223,7 +220,7 @@ impl NetState {
 
     /// The tree, where one stands.
     pub(crate) fn tree(&self) -> Result<&Table, Fault>
-        ensures some { IfOk result (λ t. self.now.tree ≡ Some (rows_of t.now)) }
+        ensures some { IfOk result (λ t. self.now.tree ≡ Some t.now.rows) }
         ensures none { IfErr result (λ e. (e ≡ NoTree) × (self.now.tree ≡ None)) }
     {
         if !self.stands {

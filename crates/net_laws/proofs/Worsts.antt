@@ -16,8 +16,8 @@ use Rattle.space.specs.declared.Space.{Ghosts}
 use Rattle.space.specs.declared.spot.Spot.{Spot}
 use Rattle.space.specs.Spots.{spot_of}
 use Rattle.span.specs.Lengths.{length_of}
-use Rattle.tree.specs.Hooks.{reach_of}
-use Rattle.tree.proofs.Measured.{uncut}
+use Rattle.tree_laws.specs.Distances.{reach_of}
+use Rattle.tree_laws.proofs.HookMoves.{uncut}
 use Rattle.tree_laws.specs.Trees.{path_length}
 use Rattle.tree_laws.specs.declared.Row.{Row}
 use Rattle.net_laws.specs.Sinks.{Sink, SinkAt}

@@ -15,10 +15,9 @@ use Rattle.order.specs.Firsts.{Among}
 use Rattle.space.specs.declared.Joining.{Ghosts as JoinGhosts}
 use Rattle.space.specs.declared.Space.{Ghosts}
 use Rattle.space.specs.declared.spot.Spot.{Spot}
-use Rattle.span.specs.Lengths.{spot_of as spot_at}
+use Rattle.space.specs.Spots.{spot_of as spot_at}
 use Rattle.straight.specs.Built.{StraightBy, Straightened, breakpoints_of}
 use Rattle.straight.proofs.Mixed.{among_breakpoints}
-use Rattle.tree.specs.Tables.{rows_of}
 use Rattle.tree.specs.declared.table.Table.{Table as Tree-table}
 use Rattle.tree_laws.specs.Trees.{add, hang, spot_of, up}
 use Rattle.tree_laws.specs.declared.Row.{Row}
@@ -108,7 +107,7 @@ straight_joinable R place n E found w rows s room =
     on_driver false b u e = cond-true b 0 u e
 
 -- a group that can be joined is joined
-pub joined_some : {X : Type 0} (G : Ghosts X) (J : JoinGhosts X) (s : X) (t₀ : Tree-table) (group : List ℕ) (r : Option ℕ) (t : Tree-table) → JoinedBy G J s t₀ group r t → Joinable (rows_of t₀) group → Whole G J s (rows_of t₀) group (unwrap_or r 0) (rows_of t)
+pub joined_some : {X : Type 0} (G : Ghosts X) (J : JoinGhosts X) (s : X) (t₀ : Tree-table) (group : List ℕ) (r : Option ℕ) (t : Tree-table) → JoinedBy G J s t₀ group r t → Joinable t₀.rows group → Whole G J s t₀.rows group (unwrap_or r 0) t.rows
 joined_some G J s t₀ group None t h j = absurd (h.0 j)
 joined_some G J s t₀ group (Some w) t h j = h
 

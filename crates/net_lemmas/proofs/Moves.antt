@@ -5,12 +5,13 @@ use Rattle.net_laws.specs.States.{State, with_tree}
 use Rattle.net_laws.specs.Worlds.{cut, joining, wiring}
 use Rattle.net_laws.specs.declared.fault.Fault.{Fault}
 use Rattle.net_laws.specs.declared.fault.Fault.TheVariants.{NoMove, TooManyRows}
-use Rattle.share.specs.Shares.{NoRoom, Saved, join_of, meet_of, shared_by}
-use Rattle.share.specs.declared.share.Share.{Share}
+use Rattle.share.specs.Shares.{NoRoom, Saved}
+use Rattle.tree_laws.specs.Distances.{join_of, reach_of}
+use Rattle.tree_laws.specs.Shares.{meet_of, shared_by}
+use Rattle.tree_laws.specs.declared.share.Share.{Share}
 use Rattle.space.specs.declared.Joining.{Ghosts as JoinGhosts}
 use Rattle.space.specs.declared.Space.{Ghosts}
 use Rattle.space.specs.declared.spot.Spot.{Spot}
-use Rattle.tree.specs.Hooks.{reach_of}
 use Rattle.tree_laws.specs.Trees.{add, hang, spot_of}
 use Rattle.tree_laws.specs.declared.Row.{Row}
 use Rattle.tree_laws.proofs.Adding.{add_length}

@@ -7,7 +7,7 @@ ghost use Rattle.span.specs.Measured.{lengths_of};
 ghost use Rattle.span.specs.Growth.{better, elsewhere, fan, offered};
 
 use crate::pins::Pins;
-use order::first;
+use search::first;
 use seed::NODES;
 use space::Space;
 use span_laws::Link;

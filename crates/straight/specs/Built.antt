@@ -14,7 +14,7 @@ use Rattle.walk.specs.Walked.{Walked}
 use Rattle.tree_laws.specs.declared.Row.{Row}
 use Rattle.tree_laws.specs.Trees.{path_length, wire_of}
 use Rattle.tree.specs.declared.table.Table.{Table}
-use Rattle.tree.specs.Hooks.{Measured, reach_of}
+use Rattle.tree_laws.specs.Distances.{Measured, reach_of}
 use Rattle.build_laws.specs.Straight.{Straight, straight}
 
 -- The spot of a node; past the spots, the origin.

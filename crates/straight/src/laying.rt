@@ -2,7 +2,7 @@
 ghost use Rattle.std.specs.Prelude.{◌≡◌, ◌≤◌, ◌↔◌, map, length, vec_capacity, slice_index_or, IsSome, OnSome};
 ghost use Rattle.space.specs.declared.TheConstants.{LONGEST};
 ghost use Rattle.seed.specs.declared.store.TheConstants.{NODES};
-ghost use Rattle.tree.specs.Hooks.{reach_of};
+ghost use Rattle.tree_laws.specs.Distances.{reach_of};
 ghost use Rattle.walk.specs.Marks.{directs, idle, marks};
 ghost use Rattle.walk.specs.Tables.{as.rows walkRows};
 ghost use Rattle.straight.specs.Built.{breakpoints_of, spot_at};

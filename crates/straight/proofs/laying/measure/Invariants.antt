@@ -1,5 +1,5 @@
 use Rattle.std.proofs.Common.{◌≡◌, length, map, take}
-use Rattle.tree.specs.Hooks.{reach_of}
+use Rattle.tree_laws.specs.Distances.{reach_of}
 use Rattle.walk.specs.Tables.{rows_of}
 use Rattle.straight.specs.Built.{spot_at}
 use Rattle.straight.specs.Laying.{directs_of}

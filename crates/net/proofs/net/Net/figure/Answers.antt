@@ -1,6 +1,5 @@
 use Rattle.std.proofs.Common.{◌≡◌, ◌<◌, length, Some, sym, ap, subst, ◌∙◌, arith}
 use Rattle.span.specs.Lengths.{length_of}
-use Rattle.tree.specs.Tables.{rows_of}
 use Rattle.tree_laws.proofs.Steps.{path_bound}
 use Rattle.tree_laws.specs.Trees.{path_length}
 use Rattle.net_laws.proofs.Worsts.{answered_or}
@@ -13,13 +12,13 @@ pub overflow_mul-result : goal.overflow_mul-result
 overflow_mul-result g c =
     let t = c.args.tree.now in
     let k = c.args.k in
-    omega (arith, answered_or _ _ _ c.path.ensures.path, c.unwrap_or.ensures, path_bound (rows_of t) 100000000 t.lengths (length (rows_of t)) k, t.few)
+    omega (arith, answered_or _ _ _ c.path.ensures.path, c.unwrap_or.ensures, path_bound t.rows 100000000 t.lengths (length t.rows) k, t.few)
 
 pub returns : goal.returns
 returns g c =
     let k = c.args.k in
     let n = c.self.inside in
-    let rows = rows_of c.args.tree.now in
+    let rows = c.args.tree.now.rows in
     let a = c.index.result.now in
     let b = c.index-2.result.now in
     let P : Seen g.row.S.Denot → Type 0 = λ x. k < x.state.pins in

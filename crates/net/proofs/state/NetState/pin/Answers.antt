@@ -1,8 +1,8 @@
 use Rattle.std.proofs.Common.{ℕ, ◌<◌, ◌≤◌, Decides, vec_items, subst, arith, rules}
 use Rattle.net_laws.specs.States.{State}
 use Rattle.net_laws.specs.Worlds.{cut, wiring}
-use Rattle.span.specs.Lengths.{spot_of}
-use Rattle.tree.specs.Hooks.{reach_of}
+use Rattle.space.specs.Spots.{spot_of}
+use Rattle.tree_laws.specs.Distances.{reach_of}
 use Rattle.net.proofs.States.{first_apart, pin_added, too_close}
 use Rattle.net.proofs.state.NetState.pin.Goals as goal
 

@@ -1,8 +1,6 @@
 use Rattle.std.proofs.Common.{◌≡◌, ◌+◌, length, vec_items, sym, refl, ◌∙◌, subst, arith}
 use Rattle.net_laws.specs.States.{State}
 use Rattle.net_lemmas.proofs.Builds.{straight_joinable}
-use Rattle.seed.specs.Seeds.{edges_of}
-use Rattle.tree.specs.Tables.{rows_of}
 use Rattle.net.proofs.States.{straightened}
 use Rattle.net.proofs.state.NetState.straight.Goals as goal
 
@@ -14,7 +12,7 @@ returns g c =
     let whole = subst P (sym c.self.view_is) c.requires in
     let s = straightened g.S.Space c.args.space.now n.table (vec_items c.args.builder.now.broken) c.as_slice-spots.result.now (vec_items n.spots) a.p a.q n.pins n.seed (vec_items c.straight-wire.new.self.broken) c.straight-wire.result c.straight-wire.new.tree c.straight-wire.ensures c.as_slice-spots.ensures.value (whole ∙ sym n.nodes, n.nodes) c.unwrap_or.result c.unwrap_or.ensures in
     rw (← c.self.view_is) (record {
-      rows = rows_of c.straight-wire.new.tree;
+      rows = c.straight-wire.new.tree.rows;
       straight = s;
       joinable = straight_joinable _ _ _ _ _ _ _ s (omega (arith, n.points, n.few));
       stands = refl;

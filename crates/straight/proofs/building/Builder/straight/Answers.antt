@@ -1,5 +1,5 @@
 use Rattle.std.proofs.Common.{◌≡◌, true, is_ok, is_some, length, vec_items, sym, ap, ◌∙◌, arith}
-use Rattle.tree.specs.Hooks.{reach_of}
+use Rattle.tree_laws.specs.Distances.{reach_of}
 use Rattle.walk.specs.Tables.{as.rows walkRows}
 use Rattle.straight.specs.Built.{spot_at}
 use Rattle.straight.proofs.Spaced.{laid_measures}
