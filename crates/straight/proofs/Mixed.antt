@@ -1,6 +1,6 @@
 -- Rows of which some are laid as in the straight tree and the others hang on the driver. Assumes nothing.
-use Rattle.std.proofs.Common.{◌≡◌, ℕ, zero, suc, ◌+◌, ◌<◌, ◌≤◌, true, false, cond, ◌||◌, eqb, ◌⊎◌, List, [], ◌∷◌, ◌++◌, length, Some, None, Option, Ok, Err, Result, sym, refl, ap, ◌∙◌, subst, inl, inr, ⊎_elim, add-one, arith}
-use Rattle.std.proofs.lemmas.List.{ext_get_or, get_or-set_other, get_or-set_same}
+use Rattle.std.proofs.Common.{◌≡◌, ℕ, zero, suc, ◌<◌, ◌≤◌, true, false, cond, ◌||◌, eqb, ◌⊎◌, List, [], ◌∷◌, ◌++◌, None, Ok, Err, Result, sym, refl, ap, ◌∙◌, subst, inl, inr, ⊎_elim, arith}
+use Rattle.std.proofs.lemmas.List.{ext_get_or}
 use Rattle.std.proofs.lemmas.Bool.{cases_Bool, cases_lt, cond-false, cond-true, ne_eqb, or_from, or_right}
 use Rattle.space.specs.declared.TheConstants.{LONGEST}
 use Rattle.order.specs.Firsts.{Among}
@@ -8,13 +8,11 @@ use Rattle.order.proofs.Finding.{among_either, among_none, among_one}
 use Rattle.space.specs.declared.spot.Spot.{Spot}
 use Rattle.walk_laws.specs.Walk.{Rules, Table}
 use Rattle.tree_laws.specs.declared.Row.{Row}
-use Rattle.tree_laws.specs.Trees.{Hangs, Tree, Way, add, blank, hang, row_of, spot_of, up}
+use Rattle.tree_laws.specs.Trees.{Hangs, Tree, Way, blank, up}
 use Rattle.tree_laws.specs.Trees.Way.{home, down}
-use Rattle.tree_laws.proofs.Adding.{add_length, add_new, add_old}
-use Rattle.tree_laws.proofs.Hanging.{hang_length}
 use Rattle.tree_laws.proofs.Ways.{off_under, placed, way_only}
 use Rattle.tree.specs.declared.table.Table.{Table as Tree-table}
-use Rattle.tree.specs.Tables.{Added, Changed}
+use Rattle.tree.specs.Tables.{Changed}
 use Rattle.tree.specs.declared.table.HangFault.{HangFault}
 use Rattle.std.specs.Result.{result_ok}
 use Rattle.build_laws.specs.Straight.{straight, straight_row}
@@ -45,35 +43,10 @@ module _ (R : Rules) (S : Table) (place : ℕ → Spot) (v : ℕ) (nz : v ≡ 0 
 
 -- ---- all rows on the driver
 
--- a row that there is room for is added
-pub added_rows : (s : Tree-table) (u : ℕ) (z : Spot) (l : ℕ) (r : Option ℕ) (t : Tree-table) → Added s u z l r t → u < length s.rows → l ≤ LONGEST → length s.rows < 768 → t.rows ≡ add s.rows u z l
-added_rows s u z l None t a h k m = absurd (a.0 (record { parent = h; short = k; room = m }))
-added_rows s u z l (Some i) t a h k m = a.2
-
--- and the call is not refused
-pub added_some : (s : Tree-table) (u : ℕ) (z : Spot) (l : ℕ) (r : Option ℕ) (t : Tree-table) → Added s u z l r t → u < length s.rows → l ≤ LONGEST → length s.rows < 768 → r ≡ None → ⊥
-added_some s u z l None t a h k m e = a.0 (record { parent = h; short = k; room = m })
-added_some s u z l (Some i) t a h k m e = cc
-
 -- a row that can be hung is not refused
 pub hung_ok : (s : Tree-table) (v u l : ℕ) (r : Result (Unit {0}) HangFault) (t : Tree-table) → Changed s v u l r t → Hangs s.rows v u → l ≤ LONGEST → result_ok r ≡ None → ⊥
 hung_ok s v u l (Ok x) t c h k e = cc
 hung_ok s v u l (Err f) t c h k e = c.0 h k
-
-module _ (R : Rules) (S : Table) (place : ℕ → Spot) where
-  pub laying_add : (n : ℕ) (rows : List Row) (z : Spot) (d : ℕ) → 1 ≤ n → z ≡ place n → d ≡ R.direct n → Laying R S place n 1 rows → Laying R S place (n + 1) 1 (add rows 0 z d)
-  laying_add n rows z d one p q l = record {
-    count = omega (arith, add_length rows 0 z d, l.count);
-    done = λ k h m. add_old rows 0 z d k (omega (arith, l.count)) ∙ l.done k (omega arith) m;
-    rest = λ k h m. at k h m (cases_lt k n);
-  }
-    where
-      at : (k : ℕ) → k < n + 1 → 1 ≤ k → (k < n) ⊎ (n ≤ k) → row_of (add rows 0 z d) k ≡ star_row R.direct place k
-      at k h m (inl old) = add_old rows 0 z d k (omega (arith, l.count)) ∙ l.rest k old m
-      at k h m (inr late) =
-          let e : k ≡ length rows = omega (arith, l.count) in
-          let o : n ≡ k = omega arith in
-          ap (row_of (add rows 0 z d)) e ∙ add_new rows 0 z d ∙ same_row 0 0 z (place n) d (R.direct n) refl p q ∙ ap (star_row R.direct place) o
 
 -- ---- one more row laid
 
@@ -137,42 +110,6 @@ module _ (R : Rules) (S : Table) (place : ℕ → Spot) (n i : ℕ) (rows : List
       (way_falls p.way below v a) in
       record { row = omega (arith, l.count); moves = nz; parent = omega (arith, l.count); above = off_under t p.way v off }
 
-  pub laying_break : i < n → (S i).broken ≡ true → Laying R S place n (i + 1) rows
-  laying_break h b = record {
-    count = l.count;
-    done = λ k m q. at k m q (cases_lt k i);
-    rest = λ k m q. l.rest k m (omega arith);
-  }
-    where
-      at : (k : ℕ) → k < n → k < i + 1 → (k < i) ⊎ (i ≤ k) → row_of rows k ≡ straight_row R S place k
-      at k m q (inl old) = l.done k m old
-      at k m q (inr late) =
-          let e : k ≡ i = omega arith in
-          let nz : k ≡ 0 → ⊥ = λ z. omega arith in
-          l.rest k m late ∙ row_broken R S place k nz (ap (λ x. (S x).broken) e ∙ b)
-
-  pub laying_hang : i < n → (S i).broken ≡ false → Laying R S place n (i + 1) (hang rows i (S i).parent (S i).edge)
-  laying_hang h b = record {
-    count = hang_length rows i (S i).parent (S i).edge ∙ l.count;
-    done = λ k m q. at k m q (cases_lt k i);
-    rest = λ k m q. get_or-set_other rows i k new blank (λ e. omega arith) ∙ l.rest k m (omega arith);
-  }
-    where
-      new : Row
-      new = record { parent = (S i).parent; spot = spot_of rows i; length = (S i).edge }
-
-      at : (k : ℕ) → k < n → k < i + 1 → (k < i) ⊎ (i ≤ k) → row_of (hang rows i (S i).parent (S i).edge) k ≡ straight_row R S place k
-      at k m q (inl old) = get_or-set_other rows i k new blank (λ e. omega arith) ∙ l.done k m old
-      at k m q (inr late) =
-          let e : k ≡ i = omega arith in
-          let nz : i ≡ 0 → ⊥ = λ z. omega arith in
-          let spot : spot_of rows i ≡ place i = ap (λ (r : Row). r.spot) (l.rest i h (omega arith)) in
-          ap (row_of (hang rows i (S i).parent (S i).edge)) e
-          ∙ get_or-set_same rows i new blank (omega (arith, l.count))
-          ∙ same_row (S i).parent (S i).parent (spot_of rows i) (place i) (S i).edge (S i).edge refl spot refl
-          ∙ row_hung R S place i nz b
-          ∙ ap (straight_row R S place) (sym e)
-
 -- ---- all rows laid
 
 pub laid_straight : (R R' : Rules) (S : Table) (place : ℕ → Spot) (n : ℕ) (rows : List Row) → ((k : ℕ) → R.direct k ≡ R'.direct k) → Laying R S place n n rows → rows ≡ straight R' S place n
@@ -186,12 +123,6 @@ laid_straight R R' S place n rows e l =
     ∙ sym (straight_row_lem R' S place n k m))
 
 -- ---- the breakpoints
-
-pub breakpoints_push : (S : Table) (i : ℕ) → (S i).broken ≡ true → breakpoints_of S (i + 1) ≡ breakpoints_of S i ++ i ∷ []
-breakpoints_push S i b = rw add-one (cond-true (S i).broken (breakpoints_of S i ++ i ∷ []) (breakpoints_of S i) b)
-
-pub breakpoints_same : (S : Table) (i : ℕ) → (S i).broken ≡ false → breakpoints_of S (i + 1) ≡ breakpoints_of S i
-breakpoints_same S i b = rw add-one (cond-false (S i).broken (breakpoints_of S i ++ i ∷ []) (breakpoints_of S i) b)
 
 -- what is listed is a breakpoint
 pub among_breakpoints : (S : Table) (n v : ℕ) → Among v (breakpoints_of S n) → (v < n) × ((S v).broken ≡ true)
