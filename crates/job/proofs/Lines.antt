@@ -7,7 +7,7 @@ use Rattle.net_laws.specs.Logs.Runs.{next, still}
 use Rattle.net_laws.specs.States.{State, fresh}
 use Rattle.net_laws.specs.Worlds.{Keeps}
 use Rattle.net_laws.proofs.Keeping.{run_keeps}
-use Rattle.net.proofs.Owned.{own_meets}
+use Rattle.net_laws.proofs.Owned.{own_meets}
 use Rattle.built_spaces.specs.Grid.{plane_meets, plane_metric}
 use Rattle.built_spaces.specs.Lifted.{lifted_meets, lifted_metric, narrow_sum}
 use Rattle.built_spaces.specs.Root.{air_metric}

@@ -55,12 +55,19 @@ impl Model for NetState {
 
     ghost use Rattle.net.specs.Held.{ratio_of, standing};
 
-    ghost view = { λ n. record { spots = n.spots.items; pins = n.pins; allowance = ratio_of n.allowance; edges = n.seed.edges; tree = standing n.stands n.table } };
+    ghost view = { λ n. record {
+      spots = n.spots.items;
+      pins = n.pins;
+      allowance = ratio_of n.allowance;
+      edges = n.seed.edges;
+      tree = standing n.stands n.table;
+    } };
 }
 
 /// Whether each of the pins is at least 1 away from `spot`.
 fn apart<S: Space>(space: &S, pins: &[Spot], spot: Spot) -> bool
-    ensures { IsTrue result ↔ ((k : ℕ) → k < length pins.now → 1 ≤ reach_of S.Space space.now (spot_of pins.now k) spot) }
+    ensures { IsTrue result ↔
+        ((k : ℕ) → k < length pins.now → 1 ≤ reach_of S.Space space.now (spot_of pins.now k) spot) }
 {
     pins.iter().all(|pin| reach(space, *pin, spot) != 0)
 }
@@ -270,7 +277,8 @@ impl NetState {
         members: &[usize],
     ) -> u64
         requires { JoinableIn self.old members.now }
-        ensures { JoinsIn (reach_of S.Space space.now) (join_of S.Space S.Joining.own space.now) self.old members.now result self.new }
+        ensures { JoinsIn (reach_of S.Space space.now) (join_of S.Space S.Joining.own space.now)
+            self.old members.now result self.new }
     {
         // The call is not refused here; `unwrap` would have that proved once more, beside the answer.
         joiner.join(space, &mut self.table, members).unwrap_or(0)
