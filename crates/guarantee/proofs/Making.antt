@@ -1,7 +1,8 @@
 -- One call more in a list of calls. Assumes nothing.
 use Rattle.std.proofs.Common.{◌≡◌, ℕ, ◌+◌, ◌≤◌, List, [], ◌∷◌, ◌++◌, length, get_or, set, Result, sym, refl, ap, ◌∙◌, subst, arith}
 use Rattle.std.proofs.lemmas.List.{get_or-set_other, length_push}
-use Rattle.net_laws.specs.Answers.{JoinAnswers, World}
+use Rattle.net_laws.specs.Answers.{JoinAnswers}
+use Rattle.net_laws.specs.Geometry.{World}
 use Rattle.net_laws.specs.Logs.{Log, Runs}
 use Rattle.net_laws.specs.Logs.Runs.{next, still}
 use Rattle.net_laws.specs.States.{State}

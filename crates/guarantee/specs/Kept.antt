@@ -1,6 +1,6 @@
 -- The log of a list of calls and its answers, and what holds when they were made on a net. Assumes nothing.
 use Rattle.std.specs.Prelude.{◌≡◌, ℕ, List, [], ◌∷◌, ◌++◌, map, length, Ok, Err, Result}
-use Rattle.net_laws.specs.Answers.{World}
+use Rattle.net_laws.specs.Geometry.{World}
 use Rattle.net_laws.specs.Guarantee.{Guarantee}
 use Rattle.net_laws.specs.Logs.{Log, Runs}
 use Rattle.net_laws.specs.States.{State, fresh}

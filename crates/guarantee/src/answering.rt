@@ -1,7 +1,8 @@
 // One call out of a list.
 ghost use Rattle.std.specs.Prelude.{◌≡◌};
 ghost use Rattle.net_laws.proofs.Owned.{own_meets};
-ghost use Rattle.net_laws.specs.Answers.{JoinAnswers, World};
+ghost use Rattle.net_laws.specs.Answers.{JoinAnswers};
+ghost use Rattle.net_laws.specs.Geometry.{World};
 ghost use Rattle.net_laws.specs.Worlds.{Keeps, joining, wiring};
 ghost use Rattle.net_laws.specs.declared.call.JoinCall.{JoinCall as AnyCall};
 ghost use Rattle.net_laws.specs.declared.call.JoinCall.TheVariants.{Wire};

@@ -1,7 +1,7 @@
 -- One line more, and the calls of the lines as a run of the net.
 use Rattle.std.proofs.Common.{◌≡◌, ℕ, suc, ◌+◌, ◌≤◌, Bool, List, [], ◌∷◌, ◌++◌, length, refl, sym, ap, ◌∙◌, subst, append_assoc, arith, Result, Ok, Err, Option, Some, None}
 use Rattle.std.proofs.lemmas.List.{append-nil}
-use Rattle.net_laws.specs.Answers.{World}
+use Rattle.net_laws.specs.Geometry.{World}
 use Rattle.net_laws.specs.Logs.{Log, Runs}
 use Rattle.net_laws.specs.Logs.Runs.{next, still}
 use Rattle.net_laws.specs.States.{State, fresh}

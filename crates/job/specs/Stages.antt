@@ -1,6 +1,7 @@
 -- What a line gives, by what stands when it is read. Assumes nothing.
 use Rattle.std.specs.Prelude.{◌≡◌, ℕ, Bool, true, false, Ok, Err, Result, Some, None, Option}
-use Rattle.net_laws.specs.Answers.{JoinAnswers, World}
+use Rattle.net_laws.specs.Answers.{JoinAnswers}
+use Rattle.net_laws.specs.Geometry.{World}
 use Rattle.net_laws.specs.Readings.{PathAnswer, RowsAnswer, WorstAnswer}
 use Rattle.net_laws.specs.States.{State, fresh}
 use Rattle.net_laws.specs.Worlds.{Keeps}

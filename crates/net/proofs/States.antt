@@ -6,7 +6,8 @@ use Rattle.std.specs.Option.{unwrap_or}
 use Rattle.std.specs.Result.{result_unwrap_or}
 use Rattle.build_laws.specs.Joining.{Joins}
 use Rattle.forest.specs.declared.Edge.{Edge}
-use Rattle.net_laws.specs.Answers.{JoinedAnswer, PinAnswer, StraightAnswer, Unchanged, World}
+use Rattle.net_laws.specs.Answers.{JoinedAnswer, PinAnswer, StraightAnswer, Unchanged}
+use Rattle.net_laws.specs.Geometry.{World}
 use Rattle.net_laws.specs.Readings.{figure_of}
 use Rattle.net_laws.specs.States.{State, with_pin, with_tree}
 use Rattle.net_laws.specs.Worlds.{cut, joining, wiring}

@@ -1,6 +1,7 @@
 -- A net as its callers see it, and what a call does to it: n is the net before, m the net after, and r the answer. Assumes nothing.
 use Rattle.std.specs.Prelude.{ℕ, Result}
-use Rattle.net_laws.specs.Answers.{Answers, JoinAnswers, World}
+use Rattle.net_laws.specs.Answers.{Answers, JoinAnswers}
+use Rattle.net_laws.specs.Geometry.{World}
 use Rattle.net_laws.specs.Builds.{Bounds, EdgeForEdge, NoMoreThanStraight}
 use Rattle.net_laws.specs.States.{State}
 use Rattle.net_laws.specs.Worlds.{joining, wiring}

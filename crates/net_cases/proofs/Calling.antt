@@ -13,7 +13,8 @@ use Rattle.span_laws.proofs.Checks.{every, every_at}
 use Rattle.span_laws.proofs.Steps.{spanning_only}
 use Rattle.tree_laws.specs.Trees.{wire_of}
 use Rattle.tree_laws.specs.declared.Row.{Row}
-use Rattle.net_laws.specs.Answers.{JoinAnswers, JoinedTree, Lawful, StraightTree, World, builds}
+use Rattle.net_laws.specs.Answers.{JoinAnswers, JoinedTree, Lawful, StraightTree, builds}
+use Rattle.net_laws.specs.Geometry.{World}
 use Rattle.net_laws.specs.Faults.{number_of}
 use Rattle.net_laws.specs.States.{State, fresh, with_allowance, with_edge, with_pin, with_seed, with_tree}
 use Rattle.net_laws.specs.declared.call.Call.TheVariants.{Pin, Allow, Edge as EdgeOf, Span, Straight}

@@ -3,7 +3,8 @@ use Rattle.std.specs.Prelude.{◌≡◌, ℕ, ◌+◌, List, [], ◌∷◌, ◌+
 use Rattle.forest.specs.declared.Edge.{Edge}
 use Rattle.space.specs.declared.spot.Spot.{Spot}
 use Rattle.tree_laws.specs.declared.Row.{Row}
-use Rattle.net_laws.specs.Answers.{JoinAnswers, World}
+use Rattle.net_laws.specs.Answers.{JoinAnswers}
+use Rattle.net_laws.specs.Geometry.{World}
 use Rattle.net_laws.specs.Faults.{number_of}
 use Rattle.net_laws.specs.States.{State}
 use Rattle.net_laws.specs.declared.call.Call.TheVariants.{Pin, Allow, Edge as EdgeOf}

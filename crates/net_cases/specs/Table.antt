@@ -5,7 +5,7 @@ use Rattle.space.specs.declared.spot.Spot.{Spot}
 use Rattle.built_spaces.specs.contracts.plane.PlaneJoining.TheImpl as planeJoining
 use Rattle.built_spaces.specs.contracts.plane.PlaneSpace.TheImpl as planeSpace
 use Rattle.tree_laws.specs.declared.Row.{Row}
-use Rattle.net_laws.specs.Answers.{World}
+use Rattle.net_laws.specs.Geometry.{World}
 use Rattle.net_laws.specs.States.{fresh}
 use Rattle.net_laws.specs.Worlds.{joining, wiring}
 use Rattle.net_laws.specs.declared.call.Call.TheVariants.{Pin, Span, Straight}

@@ -15,7 +15,8 @@ use Rattle.tree_laws.specs.Hooks.{hook_order}
 use Rattle.tree_laws.specs.Trees.{hang, spot_of}
 use Rattle.tree_laws.specs.declared.Row.{Row}
 use Rattle.walk_laws.specs.Walk.{start, walk}
-use Rattle.net_laws.specs.Answers.{Hooks, JoinAnswers, JoinedTree, Shares, StraightTree, World, breakpoints, rules_of}
+use Rattle.net_laws.specs.Answers.{Hooks, JoinAnswers, JoinedTree, Shares, StraightTree, breakpoints, rules_of}
+use Rattle.net_laws.specs.Geometry.{World}
 use Rattle.net_laws.specs.Logs.{Log, Runs}
 use Rattle.net_laws.specs.Logs.Runs.{next, still}
 use Rattle.net_laws.specs.States.{State, with_seed, with_tree}

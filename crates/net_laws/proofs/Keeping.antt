@@ -12,7 +12,8 @@ use Rattle.span_laws.proofs.Steps.{spanning_agrees, spanning_only}
 use Rattle.tree_laws.specs.Trees.{Hung, length_of, path_length, row_of, spot_of, up, wire_of}
 use Rattle.tree_laws.specs.declared.Row.{Row}
 use Rattle.tree_laws.proofs.Ways.{hung}
-use Rattle.net_laws.specs.Answers.{JoinAnswers, World}
+use Rattle.net_laws.specs.Answers.{JoinAnswers}
+use Rattle.net_laws.specs.Geometry.{World}
 use Rattle.net_laws.specs.Guarantee.{Guarantee, Laid, NoPathGrows, OnePathWithinAllowance, Read, RunsKeep, TreeStands, WireWithinBound}
 use Rattle.net_laws.specs.Logs.{Effect, Event, Log, Runs, SeedAfter, SeedOf, allowance_after, allowance_of, effect_of, keeps, keeps_tree, nodes_of, pins_after, pins_of, points_after, points_of, saving_after, savings_of, standing, stands_after}
 use Rattle.net_laws.specs.Logs.Effect.{nothing, adds_pin, allows, adds_point, adds_edge, drops_seed, spans, builds, saves}

@@ -17,7 +17,7 @@ use Rattle.tree_laws.specs.Trees.{Tree, hang, path_length, spot_of, wire_of}
 use Rattle.tree_laws.specs.declared.Row.{Row}
 use Rattle.tree_laws.proofs.Hanging.{hang_length, hang_never_grows, hang_spot, hang_tree, hang_wire}
 use Rattle.tree_laws.proofs.Sharing.{between_length, between_tree}
-use Rattle.net_laws.specs.Answers.{World}
+use Rattle.net_laws.specs.Geometry.{World}
 use Rattle.net_laws.specs.States.{State}
 use Rattle.net_laws.specs.Worlds.{Placed}
 

@@ -5,7 +5,8 @@ use Rattle.space.specs.declared.Joining.{Ghosts as JoinGhosts}
 use Rattle.space.specs.declared.Space.{Ghosts}
 use Rattle.space.specs.declared.spot.Spot.{Spot}
 use Rattle.span.specs.Lengths.{length_of}
-use Rattle.net_laws.specs.Answers.{Answers, EdgeAnswer, HookAnswer, JoinAnswers, JoinedAnswer, PinAnswer, ShareAnswer, SpanBy, SteinerAnswer, StraightAnswer, Unchanged, World}
+use Rattle.net_laws.specs.Answers.{Answers, EdgeAnswer, HookAnswer, JoinAnswers, JoinedAnswer, PinAnswer, ShareAnswer, SpanBy, SteinerAnswer, StraightAnswer, Unchanged}
+use Rattle.net_laws.specs.Geometry.{World}
 use Rattle.net_laws.specs.States.{State, unseeded}
 use Rattle.net_laws.specs.Worlds.{Keeps, Whole, cut, joining, wiring}
 use Rattle.net_laws.specs.declared.call.Call.TheVariants.{Pin, Steiner, Edge, Unseed, Span, Straight, Hook}

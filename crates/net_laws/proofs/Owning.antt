@@ -16,7 +16,8 @@ use Rattle.tree_laws.proofs.HookMoves.{measured, move_cut, move_own, settled, un
 use Rattle.tree_laws.specs.Trees.{hang}
 use Rattle.tree_laws.specs.declared.Row.{Row}
 use Rattle.walk_laws.specs.Walk.{start, walk}
-use Rattle.net_laws.specs.Answers.{EdgeAnswer, HookAnswer, Hooks, JoinedAnswer, JoinedTree, PinAnswer, ShareAnswer, Shares, SpanAnswer, SpanBy, Stands, StraightAnswer, StraightTree, World, breakpoints, marks_of, rules_of}
+use Rattle.net_laws.specs.Answers.{EdgeAnswer, HookAnswer, Hooks, JoinedAnswer, JoinedTree, PinAnswer, ShareAnswer, Shares, SpanAnswer, SpanBy, Stands, StraightAnswer, StraightTree, breakpoints, marks_of, rules_of}
+use Rattle.net_laws.specs.Geometry.{World}
 use Rattle.net_laws.specs.States.{State}
 use Rattle.net_laws.specs.Worlds.{Keeps, Tied, cut}
 use Rattle.net_laws.specs.declared.fault.Fault.{Fault}

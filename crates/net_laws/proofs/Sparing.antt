@@ -18,7 +18,8 @@ use Rattle.tree_laws.specs.declared.Row.{Row}
 use Rattle.walk_laws.specs.Promise.{Branch, Spares}
 use Rattle.walk_laws.specs.Walk.{Table, start, walk}
 use Rattle.walk_laws.proofs.Seeing.{planted_seen}
-use Rattle.net_laws.specs.Answers.{JoinedAnswer, JoinedTree, Stands, StraightAnswer, StraightTree, World, breakpoints, broken_if, marks_of, rules_of}
+use Rattle.net_laws.specs.Answers.{JoinedAnswer, JoinedTree, Stands, StraightAnswer, StraightTree, breakpoints, broken_if, marks_of, rules_of}
+use Rattle.net_laws.specs.Geometry.{World}
 use Rattle.net_laws.specs.Builds.{Bounds, EdgeForEdge, NoMoreThanStraight, WithinBounds}
 use Rattle.net_laws.specs.States.{State}
 use Rattle.net_laws.specs.declared.fault.Fault.{Fault}

@@ -20,7 +20,8 @@ use Rattle.walk_laws.specs.Promise.{Branch, Guarantee, Spanning, Triangle}
 use Rattle.walk_laws.specs.Walk.{Rules, Table}
 use Rattle.walk_laws.proofs.Keeps.{walk_keeps_lem}
 use Rattle.walk_laws.proofs.Planting.{branch_near, planted_spans}
-use Rattle.net_laws.specs.Answers.{World, breakpoints, broken_if, marks_of, rules_of}
+use Rattle.net_laws.specs.Answers.{breakpoints, broken_if, marks_of, rules_of}
+use Rattle.net_laws.specs.Geometry.{World}
 use Rattle.net_laws.specs.States.{State}
 use Rattle.net_laws.specs.Worlds.{Keeps, Placed, Tied}
 

@@ -14,7 +14,8 @@ use Rattle.space.specs.declared.spot.Spot.{Spot}
 use Rattle.space.specs.Spots.{origin, spot_of as spot_at}
 use Rattle.span_laws.specs.Spanning.{Spanning}
 use Rattle.tree_laws.specs.declared.Row.{Row}
-use Rattle.net_laws.specs.Answers.{Hooks, JoinAnswers, JoinedTree, Lawful, Shares, StraightTree, World, breakpoints, marks_of}
+use Rattle.net_laws.specs.Answers.{Hooks, JoinAnswers, JoinedTree, Lawful, Shares, StraightTree, breakpoints, marks_of}
+use Rattle.net_laws.specs.Geometry.{World}
 use Rattle.net_laws.specs.States.{State, unseeded, with_allowance, with_edge, with_pin, with_point, with_seed, with_tree}
 use Rattle.net_laws.specs.Worlds.{Keeps, Placed, Tied}
 use Rattle.net_laws.specs.declared.call.Call.TheVariants.{Pin, Allow, Steiner, Edge as EdgeOf, Unseed, Span, Straight, Hook}

@@ -1,5 +1,4 @@
--- What each call asks, in order, and what it answers. `World` is what the space means: which spots it admits, how wide it is, the distance of
--- two spots, and the meet of a and b seen from o. Assumes nothing.
+-- What each call asks, in order, and what it answers. Assumes nothing.
 use Rattle.std.specs.Prelude.{◌≡◌, ℕ, zero, suc, ◌+◌, ◌<◌, ◌≤◌, Bool, true, false, ◌⊎◌, List, [], ◌∷◌, ◌++◌, map, length, Some, None, Ok, Err, Result, slice_index}
 use Rattle.build_laws.specs.Joining.{Joins}
 use Rattle.build_laws.specs.Straight.{straight}
@@ -19,18 +18,13 @@ use Rattle.tree_laws.specs.Trees.{hang, spot_of, wire_of}
 use Rattle.tree_laws.specs.declared.Row.{Row}
 use Rattle.walk_laws.specs.Walk.{Rules, Table, start, walk}
 use Rattle.net_laws.specs.Faults.{number_of}
+use Rattle.net_laws.specs.Geometry.{World}
 use Rattle.net_laws.specs.States.{State, unseeded, with_allowance, with_edge, with_pin, with_point, with_seed, with_tree}
 use Rattle.net_laws.specs.declared.call.Call.{Call}
 use Rattle.net_laws.specs.declared.call.Call.TheVariants.{Pin, Allow, Steiner, Edge as EdgeOf, Unseed, Span, Straight, Hook as HookCall}
 use Rattle.net_laws.specs.declared.call.JoinCall.{JoinCall}
 use Rattle.net_laws.specs.declared.call.JoinCall.TheVariants.{Wire, Joined as JoinedCall, Share as ShareCall}
 use Rattle.net_laws.specs.declared.fault.Fault.{Fault}
-
-pub record World : Type 0 where
-  pub admitted : Spot → Bool
-  pub width : ℕ
-  pub between : Spot → Spot → ℕ
-  pub meeting : Spot → Spot → Spot → Spot
 
 -- ---- questions
 

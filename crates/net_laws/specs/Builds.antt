@@ -8,7 +8,8 @@ use Rattle.space.specs.Spots.{spot_of as spot_at}
 use Rattle.tree_laws.specs.Trees.{Hung, length_of, path_length, up, wire_of}
 use Rattle.tree_laws.specs.declared.Row.{Row}
 use Rattle.walk_laws.specs.Promise.{Branch, Spares}
-use Rattle.net_laws.specs.Answers.{Stands, StraightTree, World, breakpoints, marks_of, rules_of}
+use Rattle.net_laws.specs.Answers.{Stands, StraightTree, breakpoints, marks_of, rules_of}
+use Rattle.net_laws.specs.Geometry.{World}
 use Rattle.net_laws.specs.States.{State}
 
 -- Where every sink's path in the seed of n, seen from the driver, is within the allowance, the tree of m has a row for each node and no other, and

@@ -6,7 +6,7 @@ use Rattle.space.specs.Laws.{Meets, Metric, limit}
 use Rattle.space.specs.Spots.{spot_of as spot_at}
 use Rattle.tree_laws.specs.Trees.{Hung, length_of, path_length, row_of, spot_of, up, wire_of}
 use Rattle.tree_laws.specs.declared.Row.{Row}
-use Rattle.net_laws.specs.Answers.{World}
+use Rattle.net_laws.specs.Geometry.{World}
 use Rattle.net_laws.specs.Logs.{Event, Log, Runs, SeedOf, allowance_of, effect_of, keeps_tree, nodes_of, pins_of, savings_of, standing}
 use Rattle.net_laws.specs.Logs.Effect.{builds}
 use Rattle.net_laws.specs.Readings.{RowAnswer}

@@ -1,5 +1,6 @@
 pub mod Faults
 pub mod States
+pub mod Geometry
 pub mod Answers
 pub mod Builds
 pub mod Readings

@@ -5,7 +5,8 @@ use Rattle.forest.specs.Edges.{edge}
 use Rattle.space.specs.declared.spot.Spot.{Spot}
 use Rattle.space.specs.Spots.{spot_of as spot_at}
 use Rattle.span_laws.specs.Spanning.{Spanning}
-use Rattle.net_laws.specs.Answers.{JoinAnswers, World}
+use Rattle.net_laws.specs.Answers.{JoinAnswers}
+use Rattle.net_laws.specs.Geometry.{World}
 use Rattle.net_laws.specs.States.{State}
 use Rattle.net_laws.specs.declared.call.Call.{Call}
 use Rattle.net_laws.specs.declared.call.Call.TheVariants.{Pin, Allow, Steiner, Edge as EdgeOf, Unseed, Span, Straight, Hook}

@@ -11,7 +11,8 @@ use Rattle.space.specs.declared.spot.Spot.{Spot}
 use Rattle.space.specs.Spots.{spot_of as spot_at}
 use Rattle.tree_laws.specs.Trees.{Tree, length_of, spot_of, up}
 use Rattle.tree_laws.specs.declared.Row.{Row}
-use Rattle.net_laws.specs.Answers.{Lawful, World}
+use Rattle.net_laws.specs.Answers.{Lawful}
+use Rattle.net_laws.specs.Geometry.{World}
 use Rattle.net_laws.specs.States.{State}
 
 -- A wiring space; it has no meet, and no call asks for one.

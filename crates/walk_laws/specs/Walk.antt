@@ -1,5 +1,5 @@
 -- The walk over a seed rooted at the driver, node 0: what it marks at each node. Assumes nothing; an absent estimate offers nothing.
-use Rattle.std.specs.Prelude.{ℕ, ◌+◌, ◌*◌, Bool, true, false, cond, ◌&&◌, Some, None, Option, ◌==◌, nat_lt}
+use Rattle.std.specs.Prelude.{ℕ, ◌+◌, ◌*◌, ◌≤◌, Bool, true, false, cond, ◌&&◌, Some, None, Option, ◌==◌, nat_lt}
 use Rattle.forest.specs.Rooted.{Forest, none, kid}
 
 -- What the walk knows of a node: its estimate, if it has one, its parent, the length of the edge to that parent, and whether it is a breakpoint.
@@ -11,6 +11,10 @@ pub record Mark : Type 0 where
 
 abbrev pub Table : Type 0
 Table = ℕ → Mark
+
+-- What p and q of an allowance are.
+abbrev pub LawfulAllowance : (p q : ℕ) → Type 0
+LawfulAllowance p q = (p ≤ 1000) × (1 ≤ q) × (q ≤ 1000)
 
 -- The allowance p/q, how many nodes are pins (the nodes from there on are Steiner points), and each node's distance from the driver.
 pub record Rules : Type 0 where
