@@ -5,18 +5,18 @@ use Rattle.std.proofs.lemmas.Bool.{cases_Bool, cases_eq, cases_lt, eq-eqb, ne_eq
 use Rattle.space.specs.declared.spot.Spot.{Spot}
 use Rattle.forest.specs.Rooted.{Forest}
 use Rattle.forest.specs.Rooted as rooted
-use Rattle.walk_laws.specs.Walk.{Rules, Table}
-use Rattle.walk_laws.specs.Promise.{Branch, Spanning, Guarantee, Hangs, Ways, owed_at, sum_to, wire_at}
+use Rattle.walk_laws.specs.Walk.{Rules, Marks}
+use Rattle.walk_laws.specs.Promise.{Branch, RootedTree, WalkGuarantee, HangsOnNeighbour, Ways, owed_at, sum_to, wire_at}
 use Rattle.walk_laws.proofs.Branches.{branch_rank}
 use Rattle.walk_laws.proofs.Keeps.{ends_below, first_below}
 use Rattle.tree_laws.specs.declared.Row.{Row}
-use Rattle.tree_laws.specs.Trees.Way.{home, down}
-use Rattle.tree_laws.specs.Trees.{Tree, Way, blank, length_of, path_length, row_of, up, wire_of}
+use Rattle.tree_laws.specs.Trees.RowWay.{home, down}
+use Rattle.tree_laws.specs.Trees.{RowTree, RowWay, blank, row_length, path_length, row_of, up, wire_of}
 use Rattle.tree_laws.proofs.Adding.{add_wire}
 use Rattle.tree_laws.proofs.Ways.{path_driver, path_step, tree_from}
 use Rattle.build_laws.specs.Straight.{Straight, straight, straight_row}
 
-module _ (R : Rules) (S : Table) (spots : ℕ → Spot) where
+module _ (R : Rules) (S : Marks) (spots : ℕ → Spot) where
   pub straight_length : (n : ℕ) → length (straight R S spots n) ≡ n
   straight_length zero = refl
   straight_length (suc n) = length_push (straight R S spots n) (straight_row R S spots n) ∙ omega (arith, straight_length n)
@@ -66,7 +66,7 @@ module _ (R : Rules) (S : Table) (spots : ℕ → Spot) where
   straight_wire (suc n) low =
       omega (arith, wire_push (straight R S spots n) (straight_row R S spots n), straight_wire n (λ v h. low v (omega arith)), cost n (low n (omega arith)))
 
-module _ (R : Rules) (n : ℕ) (F : Forest) (S : Table) (spots : ℕ → Spot) (g : Guarantee R n F S) (some : 0 < n) (inside : (u w l : ℕ) → Branch 0 F u w l → (u < n) × (w < n)) (without : (u l : ℕ) → Branch 0 F u 0 l → ⊥) where
+module _ (R : Rules) (n : ℕ) (F : Forest) (S : Marks) (spots : ℕ → Spot) (g : WalkGuarantee R n F S) (some : 0 < n) (inside : (u w l : ℕ) → Branch 0 F u w l → (u < n) × (w < n)) (without : (u l : ℕ) → Branch 0 F u 0 l → ⊥) where
   abbrev pub rows : List Row
   rows = straight R S spots n
 
@@ -76,7 +76,7 @@ module _ (R : Rules) (n : ℕ) (F : Forest) (S : Table) (spots : ℕ → Spot) (
   up_driver : up rows 0 ≡ 0
   up_driver = ap (λ r. r.parent) (straight_row_lem R S spots n 0 some)
 
-  still : length_of rows 0 ≡ 0
+  still : row_length rows 0 ≡ 0
   still = ap (λ r. r.length) (straight_row_lem R S spots n 0 some)
 
   up_broken : (v : ℕ) → v < n → (S v).broken ≡ true → up rows v ≡ 0
@@ -85,20 +85,20 @@ module _ (R : Rules) (n : ℕ) (F : Forest) (S : Table) (spots : ℕ → Spot) (
   up_hung : (v : ℕ) → v < n → (v ≡ 0 → ⊥) → (S v).broken ≡ false → up rows v ≡ (S v).parent
   up_hung v h nz b = ap (λ r. r.parent) (straight_row_lem R S spots n v h) ∙ cond-false (eqb v 0 || (S v).broken) 0 (S v).parent (or_from _ _ (ne_eqb v 0 nz) b)
 
-  long_broken : (v : ℕ) → v < n → (S v).broken ≡ true → length_of rows v ≡ R.direct v
+  long_broken : (v : ℕ) → v < n → (S v).broken ≡ true → row_length rows v ≡ R.direct v
   long_broken v h b =
       ap (λ r. r.length) (straight_row_lem R S spots n v h)
       ∙ cond-false (eqb v 0) 0 (cond (S v).broken (R.direct v) (S v).edge) (ne_eqb v 0 (high v h b))
       ∙ cond-true (S v).broken (R.direct v) (S v).edge b
 
-  long_hung : (v : ℕ) → v < n → (v ≡ 0 → ⊥) → (S v).broken ≡ false → length_of rows v ≡ (S v).edge
+  long_hung : (v : ℕ) → v < n → (v ≡ 0 → ⊥) → (S v).broken ≡ false → row_length rows v ≡ (S v).edge
   long_hung v h nz b =
       ap (λ r. r.length) (straight_row_lem R S spots n v h)
       ∙ cond-false (eqb v 0) 0 (cond (S v).broken (R.direct v) (S v).edge) (ne_eqb v 0 nz)
       ∙ cond-false (S v).broken (R.direct v) (S v).edge b
 
   -- the parent of a node that hangs is a node
-  parent_below : (v e : ℕ) → Hangs F S v e → (S v).parent < n
+  parent_below : (v e : ℕ) → HangsOnNeighbour F S v e → (S v).parent < n
   parent_below v e h =
       ⊎_elim
       (λ (d : Branch 0 F (S v).parent v (S v).edge). (inside (S v).parent v (S v).edge d).0)
@@ -106,10 +106,10 @@ module _ (R : Rules) (n : ℕ) (F : Forest) (S : Table) (spots : ℕ → Spot) (
       h.neighbour
 
   -- every node comes up to the driver, since the estimates fall from a node to its parent
-  way_by : (fuel v e : ℕ) → v < n → (S v).est ≡ Some e → e < fuel → (ns : List ℕ) × Way rows v ns
+  way_by : (fuel v e : ℕ) → v < n → (S v).est ≡ Some e → e < fuel → (ns : List ℕ) × RowWay rows v ns
   way_by zero v e h t f = absurd (omega arith)
   way_by (suc fuel) v e h t f =
-      let P : ℕ → Type 0 = λ x. (ns : List ℕ) × Way rows x ns in
+      let P : ℕ → Type 0 = λ x. (ns : List ℕ) × RowWay rows x ns in
       ⊎_elim
       (λ (z : v ≡ 0). subst P (sym z) (0 ∷ [], home))
       (λ (nz : v ≡ 0 → ⊥).
@@ -140,7 +140,7 @@ module _ (R : Rules) (n : ℕ) (F : Forest) (S : Table) (spots : ℕ → Spot) (
       (cases_Bool (S v).broken))
       (cases_eq v 0)
 
-  pub straight_tree : Tree rows
+  pub straight_tree : RowTree rows
   straight_tree =
       tree_from rows (omega (arith, rows_length)) up_driver still
       (λ j h. omega (arith, rows_length, up_below j (omega (arith, rows_length))))
@@ -175,7 +175,7 @@ module _ (R : Rules) (n : ℕ) (F : Forest) (S : Table) (spots : ℕ → Spot) (
   }
 
 -- the same over a seed that is a tree on the nodes below n
-pub straight_of : (R : Rules) (n : ℕ) (rank : ℕ → ℕ) (F : Forest) (S : Table) (spots : ℕ → Spot) → 0 < R.q → Spanning n rank F → Guarantee R n F S → Straight R n F S (straight R S spots n)
+pub straight_of : (R : Rules) (n : ℕ) (rank : ℕ → ℕ) (F : Forest) (S : Marks) (spots : ℕ → Spot) → 0 < R.q → RootedTree n rank F → WalkGuarantee R n F S → Straight R n F S (straight R S spots n)
 straight_of R n rank F S spots q T g =
     straight_keeps_lem R n F S spots g (first_below R n rank F q T) (ends_below R n rank F q T)
     (λ u l d. omega (arith, (branch_rank n rank 1 F n T.ranked 0 u 0 l d).0, T.first))

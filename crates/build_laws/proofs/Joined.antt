@@ -7,9 +7,9 @@ use Rattle.order.proofs.Finding.{among_either, among_none, among_one}
 use Rattle.space.specs.Laws.{Meets}
 use Rattle.space.specs.declared.spot.Spot.{Spot}
 use Rattle.tree_laws.specs.declared.Row.{Row}
-use Rattle.tree_laws.specs.Trees.{Child, Tree, length_of, path_length, row_of, spot_of, up, wire_of}
+use Rattle.tree_laws.specs.Trees.{Child, RowTree, row_length, path_length, row_of, row_spot, up, wire_of}
 use Rattle.tree_laws.proofs.Sharing.{between_length, between_new, between_other, between_paths, between_tree, between_wire}
-use Rattle.build_laws.specs.Joining.{Grouped, JoiningKeeps, Joins, Kept, PairOf, far_of, meet_group, meet_of, meet_row}
+use Rattle.build_laws.specs.Joining.{Grouped, JoiningKeeps, Joins, JoinedKeeps, PairOf, far_of, meet_group, meet_of, meet_row}
 use Rattle.build_laws.specs.Joining.Joins.{done, join}
 
 -- what stands in a group without two members stood in it
@@ -27,26 +27,26 @@ among_kept p (y ∷ xs) x m =
     (cases_Bool (p y))
 
 module _ (d : Spot → Spot → ℕ) (m : Spot → Spot → Spot → Spot) (admitted : Spot → Bool) (laws : Meets admitted d m) where
-  module _ (rows : List Row) (group : List ℕ) (t : Tree rows) (g : Grouped d m admitted rows group) (a b : ℕ) (p : PairOf d m group a b) where
+  module _ (rows : List Row) (group : List ℕ) (t : RowTree rows) (g : Grouped d m admitted rows group) (a b : ℕ) (p : PairOf d m group a b) where
     abbrev z : Spot
     z = meet_of d m rows a b
 
     pub first_child : Child rows 0 a
     first_child = record { row = g.rows_of a p.first; moves = g.others a p.first; parent = g.hung a p.first }
 
-    first_splits : far_of d m rows a b + d z (spot_of rows a) ≡ length_of rows a
-    first_splits = laws.first (spot_of rows 0) (spot_of rows a) (spot_of rows b) g.driver (g.admits a p.first) (g.admits b p.second) ∙ sym (g.long a p.first)
+    first_splits : far_of d m rows a b + d z (row_spot rows a) ≡ row_length rows a
+    first_splits = laws.first (row_spot rows 0) (row_spot rows a) (row_spot rows b) g.driver (g.admits a p.first) (g.admits b p.second) ∙ sym (g.long a p.first)
 
     pub second_child : Child rows 0 b
     second_child = record { row = g.rows_of b p.second; moves = g.others b p.second; parent = g.hung b p.second }
 
-    second_splits : far_of d m rows a b + d z (spot_of rows b) ≡ length_of rows b
-    second_splits = laws.second (spot_of rows 0) (spot_of rows a) (spot_of rows b) g.driver (g.admits a p.first) (g.admits b p.second) ∙ sym (g.long b p.second)
+    second_splits : far_of d m rows a b + d z (row_spot rows b) ≡ row_length rows b
+    second_splits = laws.second (row_spot rows 0) (row_spot rows a) (row_spot rows b) g.driver (g.admits a p.first) (g.admits b p.second) ∙ sym (g.long b p.second)
 
     apart : b ≡ a → ⊥
     apart e = omega (arith, p.ordered)
 
-    pub step_tree : Tree (meet_row d m rows a b)
+    pub step_tree : RowTree (meet_row d m rows a b)
     step_tree = between_tree t 0 t.some z (far_of d m rows a b) a _ b _ first_child second_child apart
 
     step_paths : (k : ℕ) → k < length rows → path_length (meet_row d m rows a b) k ≡ path_length rows k
@@ -93,24 +93,24 @@ module _ (d : Spot → Spot → ℕ) (m : Spot → Spot → Spot → Spot) (admi
           (λ (e : k ≡ length rows). ap (up (meet_row d m rows a b)) e ∙ ap (λ r. r.parent) row_new)
           (member k i);
       long = λ k i.
-          let o-spot : spot_of rows 0 ≡ spot_of (meet_row d m rows a b) 0 = sym (ap (λ r. r.spot) driver_same) in
+          let o-spot : row_spot rows 0 ≡ row_spot (meet_row d m rows a b) 0 = sym (ap (λ r. r.spot) driver_same) in
           ⊎_elim
           (λ (o : Old k).
-          ap (λ r. r.length) o.row ∙ g.long k o.stood ∙ ap (λ s. d s (spot_of rows k)) o-spot ∙ ap (d (spot_of (meet_row d m rows a b) 0)) (sym (ap (λ r. r.spot) o.row)))
+          ap (λ r. r.length) o.row ∙ g.long k o.stood ∙ ap (λ s. d s (row_spot rows k)) o-spot ∙ ap (d (row_spot (meet_row d m rows a b) 0)) (sym (ap (λ r. r.spot) o.row)))
           (λ (e : k ≡ length rows).
-          ap (length_of (meet_row d m rows a b)) e ∙ ap (λ r. r.length) row_new ∙ ap (λ s. d s z) o-spot
-          ∙ ap (d (spot_of (meet_row d m rows a b) 0)) (sym (ap (λ r. r.spot) row_new)) ∙ ap (λ j. d (spot_of (meet_row d m rows a b) 0) (spot_of (meet_row d m rows a b) j)) (sym e))
+          ap (row_length (meet_row d m rows a b)) e ∙ ap (λ r. r.length) row_new ∙ ap (λ s. d s z) o-spot
+          ∙ ap (d (row_spot (meet_row d m rows a b) 0)) (sym (ap (λ r. r.spot) row_new)) ∙ ap (λ j. d (row_spot (meet_row d m rows a b) 0) (row_spot (meet_row d m rows a b) j)) (sym e))
           (member k i);
       admits = λ k i.
           ⊎_elim
           (λ (o : Old k). ap (λ r. admitted r.spot) o.row ∙ g.admits k o.stood)
           (λ (e : k ≡ length rows).
-          ap (λ j. admitted (spot_of (meet_row d m rows a b) j)) e ∙ ap (λ r. admitted r.spot) row_new
-          ∙ laws.inside (spot_of rows 0) (spot_of rows a) (spot_of rows b) g.driver (g.admits a p.first) (g.admits b p.second))
+          ap (λ j. admitted (row_spot (meet_row d m rows a b) j)) e ∙ ap (λ r. admitted r.spot) row_new
+          ∙ laws.inside (row_spot rows 0) (row_spot rows a) (row_spot rows b) g.driver (g.admits a p.first) (g.admits b p.second))
           (member k i);
     }
 
-  joins_keep : {rows after : List Row} {group : List ℕ} → Tree rows → Grouped d m admitted rows group → Joins d m rows group after → Kept d m rows after
+  joins_keep : {rows after : List Row} {group : List ℕ} → RowTree rows → Grouped d m admitted rows group → Joins d m rows group after → JoinedKeeps d m rows after
   joins_keep t g (done h) = record { tree = t; more = omega arith; paths = λ k l. refl; wire = omega arith }
   joins_keep {rows} {after} {group} t g (join a b f h rest) =
       let p = f.pair in

@@ -6,7 +6,7 @@ use Rattle.order.specs.Firsts.Among.{here, there}
 use Rattle.order.proofs.Finding.{among_either, among_left, among_one, among_right}
 use Rattle.space.specs.declared.spot.Spot.{Spot}
 use Rattle.tree_laws.specs.declared.Row.{Row}
-use Rattle.tree_laws.specs.Trees.{Child, Tree, row_of, spot_of}
+use Rattle.tree_laws.specs.Trees.{Child, RowTree, row_of, row_spot}
 use Rattle.tree_laws.proofs.Sharing.{between_first, between_length, between_new, between_other, between_second, between_tree}
 use Rattle.build_laws.specs.Joining.{PairOf, far_of, meet_group, meet_of, meet_row, others}
 use Rattle.build_laws.proofs.Joined.{among_kept}
@@ -40,7 +40,7 @@ others_not a b x e =
 
 -- ---- the rows and the group after a step
 
-module _ (d : Spot → Spot → ℕ) (j : Spot → Spot → Spot → Spot) (rows : List Row) (t : Tree rows) (group : List ℕ) (hung : (g : ℕ) → Among g group → Child rows 0 g) (a b : ℕ) (q : PairOf d j group a b) where
+module _ (d : Spot → Spot → ℕ) (j : Spot → Spot → Spot → Spot) (rows : List Row) (t : RowTree rows) (group : List ℕ) (hung : (g : ℕ) → Among g group → Child rows 0 g) (a b : ℕ) (q : PairOf d j group a b) where
   abbrev after : List Row
   after = meet_row d j rows a b
 
@@ -51,12 +51,12 @@ module _ (d : Spot → Spot → ℕ) (j : Spot → Spot → Spot → Spot) (rows
   apart e = omega (arith, q.ordered)
 
   abbrev la : ℕ
-  la = d (meet_of d j rows a b) (spot_of rows a)
+  la = d (meet_of d j rows a b) (row_spot rows a)
 
   abbrev lb : ℕ
-  lb = d (meet_of d j rows a b) (spot_of rows b)
+  lb = d (meet_of d j rows a b) (row_spot rows b)
 
-  pub step_tree : Tree after
+  pub step_tree : RowTree after
   step_tree = between_tree t 0 t.some (meet_of d j rows a b) (far_of d j rows a b) a la b lb (hung a q.first) (hung b q.second) apart
 
   pub step_length : length after ≡ length rows + 1
@@ -68,19 +68,19 @@ module _ (d : Spot → Spot → ℕ) (j : Spot → Spot → Spot → Spot) (rows
   row_new : row_of after (length rows) ≡ record { parent = 0; spot = meet_of d j rows a b; length = far_of d j rows a b }
   row_new = between_new t 0 t.some (meet_of d j rows a b) (far_of d j rows a b) a la b lb (hung a q.first) (hung b q.second) apart
 
-  row_first : row_of after a ≡ record { parent = length rows; spot = spot_of rows a; length = la }
+  row_first : row_of after a ≡ record { parent = length rows; spot = row_spot rows a; length = la }
   row_first = between_first t 0 t.some (meet_of d j rows a b) (far_of d j rows a b) a la b lb (hung a q.first) (hung b q.second) apart
 
-  row_second : row_of after b ≡ record { parent = length rows; spot = spot_of rows b; length = lb }
+  row_second : row_of after b ≡ record { parent = length rows; spot = row_spot rows b; length = lb }
   row_second = between_second t 0 t.some (meet_of d j rows a b) (far_of d j rows a b) a la b lb (hung a q.first) (hung b q.second) apart
 
-  spot_kept : (k : ℕ) → k < length rows → spot_of after k ≡ spot_of rows k
+  spot_kept : (k : ℕ) → k < length rows → row_spot after k ≡ row_spot rows k
   spot_kept k h =
       ⊎_elim
-      (λ (e : k ≡ a). ap (spot_of after) e ∙ ap (λ (r : Row). r.spot) row_first ∙ ap (spot_of rows) (sym e))
+      (λ (e : k ≡ a). ap (row_spot after) e ∙ ap (λ (r : Row). r.spot) row_first ∙ ap (row_spot rows) (sym e))
       (λ (na : k ≡ a → ⊥).
       ⊎_elim
-      (λ (e : k ≡ b). ap (spot_of after) e ∙ ap (λ (r : Row). r.spot) row_second ∙ ap (spot_of rows) (sym e))
+      (λ (e : k ≡ b). ap (row_spot after) e ∙ ap (λ (r : Row). r.spot) row_second ∙ ap (row_spot rows) (sym e))
       (λ (nb : k ≡ b → ⊥). ap (λ (r : Row). r.spot) (row_same k h na nb))
       (cases_eq k b))
       (cases_eq k a)
@@ -88,9 +88,9 @@ module _ (d : Spot → Spot → ℕ) (j : Spot → Spot → Spot → Spot) (rows
   -- old rows are as far as they were
   pub far_kept : (x y : ℕ) → x < length rows → y < length rows → far_of d j after x y ≡ far_of d j rows x y
   far_kept x y hx hy =
-      ap (λ s. d s (j s (spot_of after x) (spot_of after y))) (spot_kept 0 t.some)
-      ∙ ap (λ s. d (spot_of rows 0) (j (spot_of rows 0) s (spot_of after y))) (spot_kept x hx)
-      ∙ ap (λ s. d (spot_of rows 0) (j (spot_of rows 0) (spot_of rows x) s)) (spot_kept y hy)
+      ap (λ s. d s (j s (row_spot after x) (row_spot after y))) (spot_kept 0 t.some)
+      ∙ ap (λ s. d (row_spot rows 0) (j (row_spot rows 0) s (row_spot after y))) (spot_kept x hx)
+      ∙ ap (λ s. d (row_spot rows 0) (j (row_spot rows 0) (row_spot rows x) s)) (spot_kept y hy)
 
   -- a member then: an old one that is neither a nor b, or the new row
   pub record Old (k : ℕ) : Type 0 where

@@ -1,14 +1,16 @@
 -- Joining measured rows is joining by the space's own distances and meets. Assumes nothing.
 use Rattle.std.proofs.Common.{◌≡◌, ℕ, ◌<◌, ◌≤◌, false, List, length, sym, refl, ap, ◌∙◌, subst, arith}
 use Rattle.order.specs.Firsts.{Among}
-use Rattle.space.specs.Laws.{Meets, Metric, limit}
+use Rattle.space.specs.Laws.{Meets, Metric}
+use Rattle.space.specs.declared.TheConstants.{LONGEST}
 use Rattle.space.specs.declared.Space.{Ghosts}
 use Rattle.space.specs.declared.Joining.{Ghosts as JoinGhosts}
 use Rattle.space.specs.declared.spot.Spot.{Spot}
 use Rattle.tree_laws.specs.declared.Row.{Row}
-use Rattle.tree_laws.specs.Trees.{Child, Tree, spot_of}
+use Rattle.tree_laws.specs.Trees.{Child, RowTree, row_spot}
 use Rattle.tree_laws.specs.declared.share.Share.{Share}
-use Rattle.tree_laws.specs.Distances.{Measured, join_of, reach_of}
+use Rattle.tree_laws.specs.Distances.{Measured}
+use Rattle.space.specs.Totals.{meet_or_start, capped_distance}
 use Rattle.tree_laws.specs.Shares.{ShareMove}
 use Rattle.tree_laws.proofs.ShareMoves.{measured_again, saves_is, shared_is}
 use Rattle.build_laws.specs.Joining.{Farthest, Grouped, Joins, PairOf, far_of, meet_group, meet_row}
@@ -16,12 +18,12 @@ use Rattle.build_laws.specs.Joining.Joins.{done, join}
 use Rattle.build_laws.specs.Pairs.{pair_before}
 use Rattle.build_laws.proofs.Meeting.{step_hung, step_tree}
 
-module _ {X : Type 0} (G : Ghosts X) (J : JoinGhosts X) (s : X) (metric : G.width s ≤ limit → Metric (G.admitted s) (G.width s) (G.between s)) (meets : G.width s ≤ limit → Meets (G.admitted s) (G.between s) (J.meeting s)) where
+module _ {X : Type 0} (G : Ghosts X) (J : JoinGhosts X) (s : X) (metric : G.width s ≤ LONGEST → Metric (G.admitted s) (G.width s) (G.between s)) (meets : G.width s ≤ LONGEST → Meets (G.admitted s) (G.between s) (J.meeting s)) where
   abbrev d : Spot → Spot → ℕ
-  d = reach_of G s
+  d = capped_distance G s
 
   abbrev j : Spot → Spot → Spot → Spot
-  j = join_of G J s
+  j = meet_or_start G J s
 
   abbrev e : Spot → Spot → ℕ
   e = G.between s
@@ -39,7 +41,7 @@ module _ {X : Type 0} (G : Ghosts X) (J : JoinGhosts X) (s : X) (metric : G.widt
   cut_pair : (group : List ℕ) (a b : ℕ) → PairOf e i group a b → PairOf d j group a b
   cut_pair group a b p = record { first = p.first; second = p.second; ordered = p.ordered }
 
-  module _ (rows : List Row) (t : Tree rows) (p : Measured G s rows) (group : List ℕ) (hung : (g : ℕ) → Among g group → Child rows 0 g) where
+  module _ (rows : List Row) (t : RowTree rows) (p : Measured G s rows) (group : List ℕ) (hung : (g : ℕ) → Among g group → Child rows 0 g) where
     far_is : (a b : ℕ) → PairOf d j group a b → far_of d j rows a b ≡ far_of e i rows a b
     far_is a b q = saves_is G J s rows metric meets p (share_of rows a b) t.some (hung a q.first).row (hung b q.second).row
 
@@ -69,12 +71,12 @@ module _ {X : Type 0} (G : Ghosts X) (J : JoinGhosts X) (s : X) (metric : G.widt
       rows_of = λ g m. (hung g m).row;
       others = λ g m. (hung g m).moves;
       hung = λ g m. (hung g m).parent;
-      long = λ g m. p.lengths g (hung g m).row (hung g m).moves ∙ ap (λ x. e (spot_of rows x) (spot_of rows g)) (hung g m).parent;
+      long = λ g m. p.lengths g (hung g m).row (hung g m).moves ∙ ap (λ x. e (row_spot rows x) (row_spot rows g)) (hung g m).parent;
       admits = λ g m. p.admitted g (hung g m).row;
     }
 
   -- joining by cut distances is joining by the space's own, and the rows are measured again
-  pub own_joins : {rows after : List Row} {group : List ℕ} → Tree rows → Measured G s rows → ((g : ℕ) → Among g group → Child rows 0 g) → Joins d j rows group after → Joins e i rows group after × Measured G s after
+  pub own_joins : {rows after : List Row} {group : List ℕ} → RowTree rows → Measured G s rows → ((g : ℕ) → Among g group → Child rows 0 g) → Joins d j rows group after → Joins e i rows group after × Measured G s after
   own_joins {rows} {after} {group} t p hung (done h) = (done (λ a b q. sym (far_is rows t p group hung a b (cut_pair group a b q)) ∙ h a b (cut_pair group a b q)), p)
   own_joins {rows} {after} {group} t p hung (join a b f h rest) =
       let q = f.pair in

@@ -6,7 +6,7 @@ use Rattle.order.specs.Orders.{then_by}
 use Rattle.space.specs.Laws.{Meets}
 use Rattle.space.specs.declared.spot.Spot.{Spot}
 use Rattle.tree_laws.specs.declared.Row.{Row}
-use Rattle.tree_laws.specs.Trees.{Tree, between, length_of, path_length, spot_of, up, wire_of}
+use Rattle.tree_laws.specs.Trees.{RowTree, between, row_length, path_length, row_spot, up, wire_of}
 
 -- Neither a nor b.
 abbrev pub others : (a b : ℕ) → ℕ → Bool
@@ -15,10 +15,10 @@ others a b x = not (x == a) && not (x == b)
 module _ (d : Spot → Spot → ℕ) (m : Spot → Spot → Spot → Spot) where
   -- The meet of two rows seen from the driver, and how far it is from the driver.
   abbrev pub meet_of : List Row → (a b : ℕ) → Spot
-  meet_of rows a b = m (spot_of rows 0) (spot_of rows a) (spot_of rows b)
+  meet_of rows a b = m (row_spot rows 0) (row_spot rows a) (row_spot rows b)
 
   abbrev pub far_of : List Row → (a b : ℕ) → ℕ
-  far_of rows a b = d (spot_of rows 0) (meet_of rows a b)
+  far_of rows a b = d (row_spot rows 0) (meet_of rows a b)
 
   -- Two members of the group, the lower number first.
   pub record PairOf (group : List ℕ) (a b : ℕ) : Type 0 where
@@ -34,7 +34,7 @@ module _ (d : Spot → Spot → ℕ) (m : Spot → Spot → Spot → Spot) where
   -- The meet of a and b becomes a row on the driver and the parent of both, and takes their place in the group.
   abbrev pub meet_row : List Row → (a b : ℕ) → List Row
   meet_row rows a b =
-      between rows 0 (meet_of rows a b) (far_of rows a b) a (d (meet_of rows a b) (spot_of rows a)) b (d (meet_of rows a b) (spot_of rows b))
+      between rows 0 (meet_of rows a b) (far_of rows a b) a (d (meet_of rows a b) (row_spot rows a)) b (d (meet_of rows a b) (row_spot rows b))
 
   abbrev pub meet_group : List ℕ → (a b new : ℕ) → List ℕ
   meet_group group a b new = filter (others a b) group ++ new ∷ []
@@ -46,16 +46,16 @@ module _ (d : Spot → Spot → ℕ) (m : Spot → Spot → Spot → Spot) where
 
   -- Each member hangs on the driver at its distance from it, and the spots are admitted.
   pub record Grouped (admitted : Spot → Bool) (rows : List Row) (group : List ℕ) : Type 0 where
-    pub driver : admitted (spot_of rows 0) ≡ true
+    pub driver : admitted (row_spot rows 0) ≡ true
     pub rows_of : (g : ℕ) → Among g group → g < length rows
     pub others : (g : ℕ) → Among g group → g ≢ 0
     pub hung : (g : ℕ) → Among g group → up rows g ≡ 0
-    pub long : (g : ℕ) → Among g group → length_of rows g ≡ d (spot_of rows 0) (spot_of rows g)
-    pub admits : (g : ℕ) → Among g group → admitted (spot_of rows g) ≡ true
+    pub long : (g : ℕ) → Among g group → row_length rows g ≡ d (row_spot rows 0) (row_spot rows g)
+    pub admits : (g : ℕ) → Among g group → admitted (row_spot rows g) ≡ true
 
   -- What joining keeps: a tree, every path as it was, and no more wire than before.
-  pub record Kept (rows after : List Row) : Type 0 where
-    pub tree : Tree after
+  pub record JoinedKeeps (rows after : List Row) : Type 0 where
+    pub tree : RowTree after
     pub more : length rows ≤ length after
     pub paths : (k : ℕ) → k < length rows → path_length after k ≡ path_length rows k
     pub wire : wire_of after ≤ wire_of rows
@@ -63,4 +63,4 @@ module _ (d : Spot → Spot → ℕ) (m : Spot → Spot → Spot → Spot) where
 -- Joining any rows that hang on the driver, in a space that joins.
 abbrev pub JoiningKeeps : Type 0
 JoiningKeeps =
-    (d : Spot → Spot → ℕ) (m : Spot → Spot → Spot → Spot) (admitted : Spot → Bool) → Meets admitted d m → (rows after : List Row) (group : List ℕ) → Tree rows → Grouped d m admitted rows group → Joins d m rows group after → Kept d m rows after
+    (d : Spot → Spot → ℕ) (m : Spot → Spot → Spot → Spot) (admitted : Spot → Bool) → Meets admitted d m → (rows after : List Row) (group : List ℕ) → RowTree rows → Grouped d m admitted rows group → Joins d m rows group after → JoinedKeeps d m rows after

@@ -12,7 +12,7 @@ use std::alloc::Global;
 use std::cell::Cell;
 use std::process::Abort;
 use std::test::Fail;
-use tree::Table;
+use tree::Tree;
 
 /// The plane, with a count of the meets that were asked for.
 #[derive(Drop)]
@@ -54,7 +54,7 @@ impl Joining for Counted {
 }
 
 // 250 rows on the driver along a ray, the farthest first or the nearest first; answers their numbers.
-fn spread(heap: Global, table: &mut Table, farthest_first: bool) -> Result<Vec<usize>, Fail> {
+fn spread(heap: Global, table: &mut Tree, farthest_first: bool) -> Result<Vec<usize>, Fail> {
     let mut members = Vec::new(heap);
     for k in 1..=250_u8 {
         let x = if farthest_first { 251 - k } else { k };
@@ -72,7 +72,7 @@ fn check_ray(rt: &impl Abort, heap: Global, farthest_first: bool) -> Result<(), 
         meets: Cell::new(0),
     };
     let mut joiner = Joiner::new(heap)?;
-    let mut table = Table::new(heap, at(0, 0))?;
+    let mut table = Tree::new(heap, at(0, 0))?;
     let members = spread(heap, &mut table, farthest_first)?;
     assert_eq!(rt; joiner.join(&space, &mut table, &members), Some(250));
     assert!(rt; space.meets.get() < 100_000);

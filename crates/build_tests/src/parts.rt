@@ -6,11 +6,11 @@ use built_spaces::Plane;
 use std::process::Abort;
 use std::test::Fail;
 use straight::Builder;
-use tree::Table;
+use tree::Tree;
 use walk::Allowance;
 
 // Two rows on the driver and a third on the first of them; wire 14.
-fn add_rows(rt: &impl Abort, table: &mut Table) {
+fn add_rows(rt: &impl Abort, table: &mut Tree) {
     assert_eq!(rt; table.add(0, at(4, 3), 7), Some(1));
     assert_eq!(rt; table.add(0, at(5, 1), 6), Some(2));
     assert_eq!(rt; table.add(1, at(4, 4), 1), Some(3));
@@ -19,7 +19,7 @@ fn add_rows(rt: &impl Abort, table: &mut Table) {
 // Members that fall, that come twice, the driver, a row on another row, and no row.
 const BAD: [[usize; 2]; 5] = [[2, 1], [1, 1], [0, 1], [1, 3], [1, 4]];
 
-fn check_joiner(rt: &impl Abort, joiner: &mut Joiner, table: &mut Table) {
+fn check_joiner(rt: &impl Abort, joiner: &mut Joiner, table: &mut Tree) {
     add_rows(rt, table);
     for members in BAD {
         assert!(rt; joiner.join(&Plane, table, &members).is_none());
@@ -32,19 +32,19 @@ fn check_joiner(rt: &impl Abort, joiner: &mut Joiner, table: &mut Table) {
 #[test]
 fn joins(rt: HostRuntime) -> Result<(), Fail> {
     let mut joiner = Joiner::new(rt.alloc())?;
-    let mut table = Table::new(rt.alloc(), at(0, 0))?;
+    let mut table = Tree::new(rt.alloc(), at(0, 0))?;
     check_joiner(&rt, &mut joiner, &mut table);
     Ok(())
 }
 
 // The wire of the straight tree of (0, 0), (5, 5) and (5, 0) that allows nothing.
-fn straight(builder: &mut Builder, seed: &Seed, table: &mut Table) -> Option<u64> {
+fn straight(builder: &mut Builder, seed: &Seed, table: &mut Tree) -> Option<u64> {
     let spare = Allowance::new(0, 1)?;
     let spots = [at(0, 0), at(5, 5), at(5, 0)];
     builder.straight(&Plane, &spots, 3, spare, &seed.as_tree()?, table)
 }
 
-fn check_builder(rt: &impl Abort, builder: &mut Builder, seed: &mut Seed, table: &mut Table) {
+fn check_builder(rt: &impl Abort, builder: &mut Builder, seed: &mut Seed, table: &mut Tree) {
     add_rows(rt, table);
     assert!(rt; seed.restart(3).is_ok() && seed.join(0, 1, 10).is_ok());
     assert!(rt; straight(builder, seed, table).is_none(), "no tree");
@@ -61,7 +61,7 @@ fn check_builder(rt: &impl Abort, builder: &mut Builder, seed: &mut Seed, table:
 fn builds(rt: HostRuntime) -> Result<(), Fail> {
     let mut builder = Builder::new(rt.alloc())?;
     let mut seed = Seed::new(rt.alloc())?;
-    let mut table = Table::new(rt.alloc(), at(0, 0))?;
+    let mut table = Tree::new(rt.alloc(), at(0, 0))?;
     check_builder(&rt, &mut builder, &mut seed, &mut table);
     Ok(())
 }

@@ -5,7 +5,7 @@ use Rattle.std.proofs.lemmas.Int.{ints, clamps}
 use Rattle.std.proofs.lemmas.Bool.{and_parts, and_from, leb-true, le-leb, eqb-true}
 use Rattle.space.specs.declared.spot.Spot.{Spot}
 use Rattle.space.specs.Laws.{Metric, Meets}
-use Rattle.built_spaces.specs.Shapes.{apart, Middle, middle, in_range, grid_between, grid_meeting}
+use Rattle.built_spaces.specs.Shapes.{abs_diff, Middle, middle, in_range, grid_between, grid_meeting}
 
 -- what it says of a spot to be in range
 pub record Within (s : Spot) : Type 0 where
@@ -19,22 +19,22 @@ within s h =
     let q = and_parts _ _ p.0 in
     record { flat = eqb-true _ _ q.0; across = leb-true _ _ q.1; along = leb-true _ _ p.1 }
 
-pub apart_self : (a : ℤ) → apart a a ≡ 0
+pub apart_self : (a : ℤ) → abs_diff a a ≡ 0
 apart_self a = omega (arith, ints)
 
-pub apart_swap : (a b : ℤ) → apart a b ≡ apart b a
+pub apart_swap : (a b : ℤ) → abs_diff a b ≡ abs_diff b a
 apart_swap a b = omega (arith, ints)
 
-pub apart_by : (a b c : ℤ) → apart a c ≤ apart a b + apart b c
+pub apart_by : (a b c : ℤ) → abs_diff a c ≤ abs_diff a b + abs_diff b c
 apart_by a b c = omega (arith, ints)
 
-pub apart_within : (a b : ℤ) (n : ℕ) → unsigned_abs a ≤ n → unsigned_abs b ≤ n → apart a b ≤ n + n
+pub apart_within : (a b : ℤ) (n : ℕ) → unsigned_abs a ≤ n → unsigned_abs b ≤ n → abs_diff a b ≤ n + n
 apart_within a b n h k = omega (arith, ints)
 
-pub middle_first : (o a b : ℤ) → apart o (middle o a b) + apart (middle o a b) a ≡ apart o a
+pub middle_first : (o a b : ℤ) → abs_diff o (middle o a b) + abs_diff (middle o a b) a ≡ abs_diff o a
 middle_first o a b = omega (arith, ints, clamps)
 
-pub middle_second : (o a b : ℤ) → apart o (middle o a b) + apart (middle o a b) b ≡ apart o b
+pub middle_second : (o a b : ℤ) → abs_diff o (middle o a b) + abs_diff (middle o a b) b ≡ abs_diff o b
 middle_second o a b = omega (arith, ints, clamps)
 
 pub middle_within : (o a b : ℤ) (n : ℕ) → unsigned_abs o ≤ n → unsigned_abs a ≤ n → unsigned_abs b ≤ n → unsigned_abs (middle o a b) ≤ n

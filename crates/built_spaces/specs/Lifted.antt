@@ -7,7 +7,7 @@ use Rattle.std.proofs.lemmas.Bool.{and_parts, and_from}
 use Rattle.space.specs.declared.spot.Spot.{Spot}
 use Rattle.space.specs.Laws.{Metric, Meets}
 use Rattle.space.specs.Spots.{spot_at_level}
-use Rattle.built_spaces.specs.Shapes.{apart, middle, flat, lift_admitted, lift_width, lift_between, lift_meeting}
+use Rattle.built_spaces.specs.Shapes.{abs_diff, middle, flat, lift_admitted, lift_width, lift_between, lift_meeting}
 use Rattle.built_spaces.specs.Grid.{apart_self, apart_swap, apart_by, middle_first, middle_second}
 
 -- what it says of a spot to be admitted by a lift
@@ -22,7 +22,7 @@ lifted admitted s h =
     let q = and_parts _ _ p.0 in
     record { low = q.0; high = q.1; down = p.1 }
 
-levels_apart : (a b : ℤ) → int_le (pos 0) a ≡ true → int_le a (pos 15) ≡ true → int_le (pos 0) b ≡ true → int_le b (pos 15) ≡ true → apart a b ≤ 15
+levels_apart : (a b : ℤ) → int_le (pos 0) a ≡ true → int_le a (pos 15) ≡ true → int_le (pos 0) b ≡ true → int_le b (pos 15) ≡ true → abs_diff a b ≤ 15
 levels_apart a b h k l m = omega (arith, ints)
 
 middle_low : (a b c : ℤ) → int_le (pos 0) a ≡ true → int_le (pos 0) b ≡ true → int_le (pos 0) c ≡ true → int_le (pos 0) (middle a b c) ≡ true
@@ -39,11 +39,11 @@ pub narrow_below : (w c : ℕ) → lift_width w c ≤ 100000000 → w ≤ 100000
 narrow_below w c h = omega arith
 
 module _ (admitted : Spot → Bool) (w : ℕ) (d : Spot → Spot → ℕ) (c : ℕ) (narrow : w + 15 * c ≤ 100000000) (m : Metric admitted w d) where
-  climbs : (a b : Spot) → Lifted admitted a → Lifted admitted b → c * apart a.level b.level ≤ 15 * c
+  climbs : (a b : Spot) → Lifted admitted a → Lifted admitted b → c * abs_diff a.level b.level ≤ 15 * c
   climbs a b h k = omega (arith, mul-le-mul_left c (levels_apart a.level b.level h.low h.high k.low k.high))
 
   -- a distance under such a lift is not cut
-  uncut : (a b : Spot) → Lifted admitted a → Lifted admitted b → lift_between d c a b ≡ d (flat a) (flat b) + c * apart a.level b.level
+  uncut : (a b : Spot) → Lifted admitted a → Lifted admitted b → lift_between d c a b ≡ d (flat a) (flat b) + c * abs_diff a.level b.level
   uncut a b h k = omega (arith, climbs a b h k, m.within (flat a) (flat b) h.down k.down)
 
   lifted_self : (a : Spot) → Lifted admitted a → lift_between d c a a ≡ 0
@@ -55,7 +55,7 @@ module _ (admitted : Spot → Bool) (w : ℕ) (d : Spot → Spot → ℕ) (c : �
 
   lifted_by : (a b e : Spot) → Lifted admitted a → Lifted admitted b → Lifted admitted e → lift_between d c a e ≤ lift_between d c a b + lift_between d c b e
   lifted_by a b e h k l =
-      omega (arith, uncut a b h k, uncut b e k l, uncut a e h l, m.triangle (flat a) (flat b) (flat e) h.down k.down l.down, mul-le-mul_left c (apart_by a.level b.level e.level), mul-add c (apart a.level b.level) (apart b.level e.level))
+      omega (arith, uncut a b h k, uncut b e k l, uncut a e h l, m.triangle (flat a) (flat b) (flat e) h.down k.down l.down, mul-le-mul_left c (apart_by a.level b.level e.level), mul-add c (abs_diff a.level b.level) (abs_diff b.level e.level))
 
   pub lifted_metric : Metric (lift_admitted admitted) (lift_width w c) (lift_between d c)
   lifted_metric = record {
@@ -89,13 +89,13 @@ module _ (admitted : Spot → Bool) (w : ℕ) (d : Spot → Spot → ℕ) (c : �
     meeting_first o a b h k l =
         let z = lift_meeting meeting o a b in
         let hz = meeting_lifted o a b h k l in
-        omega (arith, uncut o z h hz, uncut z a hz k, uncut o a h k, ap (d (flat o)) (flattened o a b h k l), ap (λ s. d s (flat a)) (flattened o a b h k l), j.first (flat o) (flat a) (flat b) h.down k.down l.down, ap (λ n. c * n) (middle_first o.level a.level b.level), mul-add c (apart o.level z.level) (apart z.level a.level))
+        omega (arith, uncut o z h hz, uncut z a hz k, uncut o a h k, ap (d (flat o)) (flattened o a b h k l), ap (λ s. d s (flat a)) (flattened o a b h k l), j.first (flat o) (flat a) (flat b) h.down k.down l.down, ap (λ n. c * n) (middle_first o.level a.level b.level), mul-add c (abs_diff o.level z.level) (abs_diff z.level a.level))
 
     meeting_second : (o a b : Spot) → Lifted admitted o → Lifted admitted a → Lifted admitted b → lift_between d c o (lift_meeting meeting o a b) + lift_between d c (lift_meeting meeting o a b) b ≡ lift_between d c o b
     meeting_second o a b h k l =
         let z = lift_meeting meeting o a b in
         let hz = meeting_lifted o a b h k l in
-        omega (arith, uncut o z h hz, uncut z b hz l, uncut o b h l, ap (d (flat o)) (flattened o a b h k l), ap (λ s. d s (flat b)) (flattened o a b h k l), j.second (flat o) (flat a) (flat b) h.down k.down l.down, ap (λ n. c * n) (middle_second o.level a.level b.level), mul-add c (apart o.level z.level) (apart z.level b.level))
+        omega (arith, uncut o z h hz, uncut z b hz l, uncut o b h l, ap (d (flat o)) (flattened o a b h k l), ap (λ s. d s (flat b)) (flattened o a b h k l), j.second (flat o) (flat a) (flat b) h.down k.down l.down, ap (λ n. c * n) (middle_second o.level a.level b.level), mul-add c (abs_diff o.level z.level) (abs_diff z.level b.level))
 
     middle_ground : (a b e : ℤ) → a ≡ pos 0 → b ≡ pos 0 → e ≡ pos 0 → middle a b e ≡ pos 0
     middle_ground a b e p q r = omega (arith, ints, clamps)

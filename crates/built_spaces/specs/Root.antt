@@ -4,7 +4,7 @@ use Rattle.std.proofs.Common.{ap, ⊎_elim, mul-le-mul, arith}
 use Rattle.std.proofs.lemmas.Bool.{cases_lt, cond_both, leb-true, leb-false}
 use Rattle.space.specs.declared.spot.Spot.{Spot}
 use Rattle.space.specs.Laws.{Metric}
-use Rattle.built_spaces.specs.Shapes.{apart, in_range, LeastRoot, root_from, root_above, squares, air_between}
+use Rattle.built_spaces.specs.Shapes.{abs_diff, in_range, LeastRoot, root_from, root_above, squares, air_between}
 use Rattle.built_spaces.specs.Grid.{within, apart_self, apart_swap, apart_by, apart_within}
 
 square_grows : (x y : ℕ) → x < y → x * x < y * y
@@ -76,10 +76,10 @@ sum_within x y a b c d m h k l = omega (arith, mul-le-mul h h, mul-le-mul k k)
 air_triangle : (a b c : Spot) → air_between a c ≤ air_between a b + air_between b c
 air_triangle a b c =
     (root_least (squares a c)).1 (air_between a b + air_between b c)
-    (sum_within (apart a.x c.x) (apart a.y c.y) (apart a.x b.x) (apart a.y b.y) (apart b.x c.x) (apart b.y c.y) _
+    (sum_within (abs_diff a.x c.x) (abs_diff a.y c.y) (abs_diff a.x b.x) (abs_diff a.y b.y) (abs_diff b.x c.x) (abs_diff b.y c.y) _
     (apart_by a.x b.x c.x)
     (apart_by a.y b.y c.y)
-    (sum_of_parts (apart a.x b.x) (apart a.y b.y) (apart b.x c.x) (apart b.y c.y) (air_between a b) (air_between b c) (root_least (squares a b)).0 (root_least (squares b c)).0))
+    (sum_of_parts (abs_diff a.x b.x) (abs_diff a.y b.y) (abs_diff b.x c.x) (abs_diff b.y c.y) (air_between a b) (air_between b c) (root_least (squares a b)).0 (root_least (squares b c)).0))
 
 squares_within : (x y : ℕ) → x ≤ 2000000 → y ≤ 2000000 → x * x + y * y ≤ 2828428 * 2828428
 squares_within x y h k = omega (arith, mul-le-mul h h, mul-le-mul k k)

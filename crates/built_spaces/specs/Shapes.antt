@@ -5,18 +5,18 @@ use Rattle.space.specs.Spots.{spot_at_level}
 use Rattle.space.specs.declared.spot.Spot.{Spot}
 
 -- |a - b|
-abbrev pub apart : ℤ → ℤ → ℕ
-apart a b = unsigned_abs (a -ℤ b)
+abbrev pub abs_diff : ℤ → ℤ → ℕ
+abs_diff a b = unsigned_abs (a -ℤ b)
 
 -- m lies between a and b, ends included.
-abbrev pub Between : ℤ → ℤ → ℤ → Type 0
-Between a b m = apart a m + apart m b ≡ apart a b
+abbrev pub LiesBetween : ℤ → ℤ → ℤ → Type 0
+LiesBetween a b m = abs_diff a m + abs_diff m b ≡ abs_diff a b
 
 -- m is the middle one of three numbers: it lies between each two of them.
 pub record Middle (a b c m : ℤ) : Type 0 where
-  pub ab : Between a b m
-  pub ac : Between a c m
-  pub bc : Between b c m
+  pub ab : LiesBetween a b m
+  pub ac : LiesBetween a c m
+  pub bc : LiesBetween b c m
 
 -- The middle one of three numbers, by a formula.
 abbrev pub middle : ℤ → ℤ → ℤ → ℤ
@@ -28,7 +28,7 @@ in_range s = unsigned_abs s.level == 0 && nat_le (unsigned_abs s.x) 1000000 && n
 
 -- Plane's distance and meet.
 abbrev pub grid_between : Spot → Spot → ℕ
-grid_between a b = apart a.x b.x + apart a.y b.y
+grid_between a b = abs_diff a.x b.x + abs_diff a.y b.y
 
 abbrev pub grid_meeting : Spot → Spot → Spot → Spot
 grid_meeting o a b = record { x = middle o.x a.x b.x; y = middle o.y a.y b.y; level = pos 0 }
@@ -49,7 +49,7 @@ root_above n = root_from n 0 n
 
 -- dx² + dy²
 abbrev pub squares : Spot → Spot → ℕ
-squares a b = apart a.x b.x * apart a.x b.x + apart a.y b.y * apart a.y b.y
+squares a b = abs_diff a.x b.x * abs_diff a.x b.x + abs_diff a.y b.y * abs_diff a.y b.y
 
 -- Air's distance.
 abbrev pub air_between : Spot → Spot → ℕ
@@ -71,7 +71,7 @@ abbrev pub lift_width : (below price : ℕ) → ℕ
 lift_width below price = capped (below + 15 * price)
 
 abbrev pub lift_between : (Spot → Spot → ℕ) → (price : ℕ) → Spot → Spot → ℕ
-lift_between below price a b = capped (below (flat a) (flat b) + price * apart a.level b.level)
+lift_between below price a b = capped (below (flat a) (flat b) + price * abs_diff a.level b.level)
 
 abbrev pub lift_meeting : (Spot → Spot → Spot → Spot) → Spot → Spot → Spot → Spot
 lift_meeting below o a b = spot_at_level (below (flat o) (flat a) (flat b)) (middle o.level a.level b.level)

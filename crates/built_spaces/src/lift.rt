@@ -1,6 +1,6 @@
 ghost use Rattle.std.specs.Prelude.{◌≡◌, ◌*◌, ◌&&◌, pos, int_le};
 ghost use Rattle.space.specs.Spots.{spot_at_level};
-ghost use Rattle.built_spaces.specs.Shapes.{apart, flat, middle as middle_of, lift_admitted, lift_width, lift_between, lift_meeting};
+ghost use Rattle.built_spaces.specs.Shapes.{abs_diff, flat, middle as middle_of, lift_admitted, lift_width, lift_between, lift_meeting};
 ghost use Rattle.built_spaces.specs.Lifted.{narrow_sum, narrow_below, lifted_metric, lifted_meets};
 
 use crate::middle_one::middle;
@@ -35,7 +35,7 @@ fn on_levels(spot: Spot) -> bool
 
 /// What it costs to change from the level of one spot to that of another.
 fn level_cost(price: u32, a: Spot, b: Spot) -> u64
-    ensures { result ≡ price * apart a.level b.level }
+    ensures { result ≡ price * abs_diff a.level b.level }
 {
     u64::from(price) * u64::from(a.level.abs_diff(b.level))
 }

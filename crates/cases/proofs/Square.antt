@@ -8,14 +8,14 @@ use Rattle.seed.specs.declared.store.Seed.{Seed}
 use Rattle.span.specs.Grown.{Grown}
 use Rattle.built_spaces.specs.contracts.plane.PlaneSpace.TheImpl as planeSpace
 use Rattle.space.specs.Spots.{spot_of}
-use Rattle.span.specs.Lengths.{Pinned, distance_of}
-use Rattle.span_laws.specs.Spanning.{Spanning, Steps}
+use Rattle.span.specs.Lengths.{Pinned, pin_distance}
+use Rattle.span_laws.specs.Spanning.{SpanningSeed, Steps}
 use Rattle.span_laws.proofs.Checks.{every, every_at, first_by, pair_by}
 use Rattle.span_laws.proofs.Steps.{spanning_only}
 use Rattle.cases.specs.Table.{PlaneSpans, plane, square, square_seed}
 
 abbrev far : ℕ → ℕ → ℕ
-far = distance_of planeSpace.ghosts plane square
+far = pin_distance planeSpace.ghosts plane square
 
 past : (k : ℕ) → suc (suc (suc (suc k))) < 4 → ⊥
 past k h = omega arith
@@ -36,7 +36,7 @@ steps (suc (suc (suc k))) x h = absurd (over k h)
     over : (k : ℕ) → suc (suc (suc k)) < 3 → ⊥
     over k h = omega arith
 
-pub spans : Spanning 4 far square_seed
+pub spans : SpanningSeed 4 far square_seed
 spans = record { steps = steps; whole = refl }
 
 apart : (u v : ℕ) → u < 4 → v < 4 → (u ≡ v → ⊥) → 1 ≤ far u v

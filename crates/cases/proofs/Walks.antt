@@ -8,13 +8,13 @@ use Rattle.forest.proofs.Labelled.{joined_label}
 use Rattle.forest.proofs.Nearest.{grows_only}
 use Rattle.built_spaces.specs.contracts.plane.PlaneSpace.TheImpl as planeSpace
 use Rattle.space.specs.declared.spot.Spot.{Spot}
-use Rattle.span.specs.Lengths.{distance_of}
+use Rattle.span.specs.Lengths.{pin_distance}
 use Rattle.walk_laws.specs.Walk.{Mark, blank, start, walk}
 use Rattle.cases.specs.Table.{PlaneWalks, chain, corner, fork, plane, rules, square}
 use Rattle.cases.proofs.Chain.{chain_grows, links}
 
 abbrev pub far : List Spot → ℕ → ℕ → ℕ
-far pins = distance_of planeSpace.ghosts plane pins
+far pins = pin_distance planeSpace.ghosts plane pins
 
 -- the walk over the one forest that the chain is
 walks : (pins : List Spot) (p q : ℕ) (marks : List Mark) → Sound (length pins) (chain (far pins) (length pins - 1)) → ((v : ℕ) → v < length pins → walk (rules pins p q) 0 (links (far pins) 0 (length pins - 1)) start v ≡ get_or marks v blank) → PlaneWalks pins p q marks

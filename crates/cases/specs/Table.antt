@@ -7,7 +7,8 @@ use Rattle.forest.specs.Rooted.{Forest}
 use Rattle.forest.specs.declared.Edge.{Edge}
 use Rattle.seed.specs.declared.store.SeedFault.{SeedFault}
 use Rattle.seed.specs.declared.store.Seed.{Seed}
-use Rattle.space.specs.Laws.{answered, limit}
+use Rattle.space.specs.Laws.{answered}
+use Rattle.space.specs.declared.TheConstants.{LONGEST}
 use Rattle.space.specs.declared.Space.{Ghosts}
 use Rattle.built_spaces.specs.declared.air.Air.{Air}
 use Rattle.built_spaces.specs.declared.lift.Lift.{Lift}
@@ -19,10 +20,10 @@ use Rattle.built_spaces.specs.contracts.plane.Plane as planeType
 use Rattle.built_spaces.specs.contracts.plane.PlaneJoining.TheImpl as planeJoining
 use Rattle.built_spaces.specs.contracts.plane.PlaneSpace.TheImpl as planeSpace
 use Rattle.span.specs.Grown.{Grown}
-use Rattle.span.specs.Lengths.{Pinned, distance_of}
-use Rattle.span_laws.specs.Spanning.{Spanning}
+use Rattle.span.specs.Lengths.{Pinned, pin_distance}
+use Rattle.span_laws.specs.Spanning.{SpanningSeed}
 use Rattle.walk.specs.Walked.{Walked}
-use Rattle.walk_laws.specs.Walk.{Mark, Rules, Table as Marks, blank, home, hung, start, walk}
+use Rattle.walk_laws.specs.Walk.{Mark, Rules, Marks, blank, home, hung, start, walk}
 
 abbrev pub plane : Plane
 plane = record {}
@@ -67,7 +68,7 @@ pub data Fact : Type 0 where
 -- seed answers the wire w and leaves these edges.
 pub record PlaneSpans (pins : List Spot) (edges : List Edge) (w : ℕ) : Type 0 where
   pub pinned : Pinned planeSpace.ghosts plane pins
-  pub spans : Spanning (length pins) (distance_of planeSpace.ghosts plane pins) edges
+  pub spans : SpanningSeed (length pins) (pin_distance planeSpace.ghosts plane pins) edges
   pub call : (t₀ t : Seed) (r : Result ℕ SeedFault) → Grown planeSpace.ghosts plane pins t₀ r t → (r ≡ Ok w) × (t.edges ≡ edges)
 
 -- The edges 0-1, 1-2, .. up to the node k, with d as the length of an edge.
@@ -77,15 +78,15 @@ chain d (suc k) = chain d k ++ edge k (suc k) (d k (suc k)) ∷ []
 
 -- The allowance p/q and the direct distances of the pins.
 abbrev pub rules : List Spot → (p q : ℕ) → Rules
-rules pins p q = record { p = p; q = q; pins = length pins; direct = distance_of planeSpace.ghosts plane pins 0 }
+rules pins p q = record { p = p; q = q; pins = length pins; direct = pin_distance planeSpace.ghosts plane pins 0 }
 
 -- A seed takes the edges of the chain; they are seen from the driver as a forest, over which the walk leaves the marks; and so does the call
 -- that walks.
 pub record PlaneWalks (pins : List Spot) (p q : ℕ) (marks : List Mark) : Type 0 where
-  pub seed : Sound (length pins) (chain (distance_of planeSpace.ghosts plane pins) (length pins - 1))
-  pub seen : (F : Forest) × Grows (chain (distance_of planeSpace.ghosts plane pins) (length pins - 1)) 0 0 0 F
-  pub walked : (F : Forest) → Grows (chain (distance_of planeSpace.ghosts plane pins) (length pins - 1)) 0 0 0 F → (v : ℕ) → v < length pins → walk (rules pins p q) 0 F start v ≡ slice_index_or marks v blank
-  pub call : (S : Marks) → Walked (rules pins p q) (length pins) (chain (distance_of planeSpace.ghosts plane pins) (length pins - 1)) S → (v : ℕ) → v < length pins → S v ≡ slice_index_or marks v blank
+  pub seed : Sound (length pins) (chain (pin_distance planeSpace.ghosts plane pins) (length pins - 1))
+  pub seen : (F : Forest) × Grows (chain (pin_distance planeSpace.ghosts plane pins) (length pins - 1)) 0 0 0 F
+  pub walked : (F : Forest) → Grows (chain (pin_distance planeSpace.ghosts plane pins) (length pins - 1)) 0 0 0 F → (v : ℕ) → v < length pins → walk (rules pins p q) 0 F start v ≡ slice_index_or marks v blank
+  pub call : (S : Marks) → Walked (rules pins p q) (length pins) (chain (pin_distance planeSpace.ghosts plane pins) (length pins - 1)) S → (v : ℕ) → v < length pins → S v ≡ slice_index_or marks v blank
 
 abbrev pub Holds : Fact → Type 0
 Holds (plane_meets o a b z) = plane_meet o a b ≡ Some z
@@ -93,7 +94,7 @@ Holds (air_measures a b d) = distance airSpace.ghosts air a b ≡ Some d
 Holds (lift_measures price a b d) = distance lift_ghosts (over_plane price) a b ≡ Some d
 Holds (plane_spans pins edges w) = PlaneSpans pins edges w
 Holds (plane_walks pins p q marks) = PlaneWalks pins p q marks
-Holds (lift_fits price answer) = nat_le (lift_ghosts.width (over_plane price)) limit ≡ answer
+Holds (lift_fits price answer) = nat_le (lift_ghosts.width (over_plane price)) LONGEST ≡ answer
 
 abbrev pub origin : Spot
 origin = at (pos 0) (pos 0) (pos 0)

@@ -6,7 +6,7 @@ use space::{Joining, Space, Spot, spot_of};
 use span::Spanner;
 use std::process::Abort;
 use std::test::Fail;
-use walk::{Allowance, Table};
+use walk::{Allowance, Walk};
 
 fn ground(x: i32, y: i32) -> Spot {
     Spot { x, y, level: 0 }
@@ -60,7 +60,7 @@ fn check_walk(
     marks: &[(u64, usize, u64, bool)],
 ) -> Result<(), Fail> {
     let mut seed = Seed::new(rt.alloc())?;
-    let mut table = Table::new(rt.alloc())?;
+    let mut table = Walk::new(rt.alloc())?;
     assert!(rt; seed.restart(pins.len()).is_ok());
     for (i, pair) in pins.windows(2).enumerate() {
         let [a, b] = pair else {

@@ -7,8 +7,8 @@ use Rattle.order.proofs.Finding.{among_left, among_right, among_one, among_none}
 use Rattle.forest.specs.declared.Edge.{Edge}
 use Rattle.forest.specs.Edges.{Between, Near, Joined}
 use Rattle.forest.specs.Edges.Joined.{same, step}
-use Rattle.forest.specs.Paths.{Way, Different, Path, Tree}
-use Rattle.forest.specs.Paths.Way.{stay, go}
+use Rattle.forest.specs.Paths.{NodeWay, Different, NodePath, IsTree}
+use Rattle.forest.specs.Paths.NodeWay.{stay, go}
 use Rattle.forest.proofs.Chains.{near_none, near_cases, joined_on, joined_back}
 use Rattle.forest.proofs.Accepted.{Accepted}
 use Rattle.forest.proofs.Accepted.Accepted.{start, more}
@@ -26,11 +26,11 @@ among_or_not x (y ∷ ns) =
     (λ (ne : x ≡ y → ⊥). ⊎_elim (λ a. inl (there a)) (λ no. inr (λ a. ⊎_elim ne no (among_cons a))) (among_or_not x ns))
     (cases_eq x y)
 
-pub way_joined : {E : List Edge} {u v : ℕ} {ns : List ℕ} → Way E u v ns → Joined E u v
+pub way_joined : {E : List Edge} {u v : ℕ} {ns : List ℕ} → NodeWay E u v ns → Joined E u v
 way_joined stay = same
 way_joined (go n w) = step n (way_joined w)
 
-way_starts : {E : List Edge} {u v : ℕ} {ns : List ℕ} → Way E u v ns → Among u ns
+way_starts : {E : List Edge} {u v : ℕ} {ns : List ℕ} → NodeWay E u v ns → Among u ns
 way_starts stay = here
 way_starts (go n w) = here
 
@@ -45,20 +45,20 @@ different_right (x ∷ xs) ys d = different_right xs ys d.1
 -- ---- a path exists
 
 -- the rest of a path from a node on it
-cut : {E : List Edge} {u v : ℕ} {ns : List ℕ} → Way E u v ns → Different ns → (x : ℕ) → Among x ns → (ms : List ℕ) × Path E x v ms
+cut : {E : List Edge} {u v : ℕ} {ns : List ℕ} → NodeWay E u v ns → Different ns → (x : ℕ) → Among x ns → (ms : List ℕ) × NodePath E x v ms
 cut {E} {v = v} (stay {u}) d x a =
     let e : x ≡ u = among_one a in
-    let P : ℕ → Type 0 = λ z. (ms : List ℕ) × Path E z u ms in
+    let P : ℕ → Type 0 = λ z. (ms : List ℕ) × NodePath E z u ms in
     subst P (sym e) (u ∷ [], record { way = stay; different = d })
 cut {E} {v = v} (go {u} {ns = ns} n w) d x a =
     ⊎_elim
     (λ (e : x ≡ u).
-    let P : ℕ → Type 0 = λ z. (ms : List ℕ) × Path E z v ms in
+    let P : ℕ → Type 0 = λ z. (ms : List ℕ) × NodePath E z v ms in
     subst P (sym e) (u ∷ ns, record { way = go n w; different = d }))
     (λ (i : Among x ns). cut w d.1 x i)
     (among_cons a)
 
-pub joined_path : {E : List Edge} {u v : ℕ} → Joined E u v → (ns : List ℕ) × Path E u v ns
+pub joined_path : {E : List Edge} {u v : ℕ} → Joined E u v → (ns : List ℕ) × NodePath E u v ns
 joined_path (same {a}) = (a ∷ [], record { way = stay; different = ((λ i. among_none i), tt) })
 joined_path {E} {u} {v} (step n h) =
     let p = joined_path h in
@@ -70,9 +70,9 @@ joined_path {E} {u} {v} (step n h) =
 -- ---- and no other: a path after one more edge between a and b goes over that edge at most once
 
 data Split (E : List Edge) (a b : ℕ) : (u v : ℕ) → List ℕ → Type 0 where
-  kept : {u v : ℕ} {ns : List ℕ} → Way E u v ns → Split E a b u v ns
-  over : {u v : ℕ} {xs ys : List ℕ} → Way E u a xs → Way E b v ys → Split E a b u v (xs ++ ys)
-  back : {u v : ℕ} {xs ys : List ℕ} → Way E u b xs → Way E a v ys → Split E a b u v (xs ++ ys)
+  kept : {u v : ℕ} {ns : List ℕ} → NodeWay E u v ns → Split E a b u v ns
+  over : {u v : ℕ} {xs ys : List ℕ} → NodeWay E u a xs → NodeWay E b v ys → Split E a b u v (xs ++ ys)
+  back : {u v : ℕ} {xs ys : List ℕ} → NodeWay E u b xs → NodeWay E a v ys → Split E a b u v (xs ++ ys)
 
 module _ (E : List Edge) (a b : ℕ) (new : Joined E a b → ⊥) where
   split_old : {u x v l : ℕ} {ns : List ℕ} → Near E u x l → Split E a b x v ns → Split E a b u v (u ∷ ns)
@@ -91,7 +91,7 @@ module _ (E : List Edge) (a b : ℕ) (new : Joined E a b → ⊥) where
   split_back (back w t) off = absurd (new (way_joined w))
 
   -- two paths of one kind are equal where that holds before the edge, and there are no two of different kinds
-  module _ (before : (x y : ℕ) (xs ys : List ℕ) → Path E x y xs → Path E x y ys → xs ≡ ys) where
+  module _ (before : (x y : ℕ) (xs ys : List ℕ) → NodePath E x y xs → NodePath E x y ys → xs ≡ ys) where
     agree : {u v : ℕ} {ns ms : List ℕ} → Split E a b u v ns → Split E a b u v ms → Different ns → Different ms → ns ≡ ms
     agree {u} {v} {ns} {ms} (kept w) (kept t) d e =
         before u v ns ms (record { way = w; different = d }) (record { way = t; different = e })
@@ -110,7 +110,7 @@ module _ (E : List Edge) (a b : ℕ) (new : Joined E a b → ⊥) where
         let q : ys ≡ qs = before a v ys qs (record { way = r; different = different_right xs ys d }) (record { way = s; different = different_right ps qs e }) in
         ap (λ z. z ++ ys) p ∙ ap (λ z. ps ++ z) q
 
-split : (E : List Edge) (e : Edge) → (Joined E e.a e.b → ⊥) → {u v : ℕ} {ns : List ℕ} → Way (E ++ e ∷ []) u v ns → Different ns → Split E e.a e.b u v ns
+split : (E : List Edge) (e : Edge) → (Joined E e.a e.b → ⊥) → {u v : ℕ} {ns : List ℕ} → NodeWay (E ++ e ∷ []) u v ns → Different ns → Split E e.a e.b u v ns
 split E e new stay d = kept stay
 split E e new {v = v} (go {u} {x} {l = l} {ns = ns} n w) d =
     let s : Split E e.a e.b x v ns = split E e new w d.1 in
@@ -131,11 +131,11 @@ split E e new {v = v} (go {u} {x} {l = l} {ns = ns} n w) d =
     k.0)
     (near_cases E e n)
 
-way_none : {u v : ℕ} {ns : List ℕ} → Way [] u v ns → ns ≡ u ∷ []
+way_none : {u v : ℕ} {ns : List ℕ} → NodeWay [] u v ns → ns ≡ u ∷ []
 way_none stay = refl
 way_none (go n w) = absurd (near_none n)
 
-pub path_unique : {n : ℕ} {E : List Edge} → Accepted n E → (u v : ℕ) (ns ms : List ℕ) → Path E u v ns → Path E u v ms → ns ≡ ms
+pub path_unique : {n : ℕ} {E : List Edge} → Accepted n E → (u v : ℕ) (ns ms : List ℕ) → NodePath E u v ns → NodePath E u v ms → ns ≡ ms
 path_unique start u v ns ms p q = way_none p.way ∙ sym (way_none q.way)
 path_unique (more {E} {e} h f) u v ns ms p q =
     agree E e.a e.b f.4 (path_unique h)
@@ -143,7 +143,7 @@ path_unique (more {E} {e} h f) u v ns ms p q =
     (split E e f.4 q.way q.different)
     p.different q.different
 
-pub tree : {n : ℕ} {E : List Edge} → Accepted n E → length E + 1 ≡ n → Tree n E
+pub tree : {n : ℕ} {E : List Edge} → Accepted n E → length E + 1 ≡ n → IsTree n E
 tree {n} {E} h e u v k l =
     let p = joined_path (all_joined h e u v k l) in
     (p.0, p.1, λ ms q. path_unique h u v ms p.0 q p.1)

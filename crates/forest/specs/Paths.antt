@@ -5,9 +5,9 @@ use Rattle.forest.specs.declared.Edge.{Edge}
 use Rattle.forest.specs.Edges.{Near}
 
 -- The nodes of a way from u to v: it starts at u, ends at v, and goes along an edge from each node to the next.
-pub data Way (E : List Edge) : (u v : ℕ) → List ℕ → Type 0 where
-  stay : {u : ℕ} → Way E u u (u ∷ [])
-  go : {u x v l : ℕ} {ns : List ℕ} → Near E u x l → Way E x v ns → Way E u v (u ∷ ns)
+pub data NodeWay (E : List Edge) : (u v : ℕ) → List ℕ → Type 0 where
+  stay : {u : ℕ} → NodeWay E u u (u ∷ [])
+  go : {u x v l : ℕ} {ns : List ℕ} → Near E u x l → NodeWay E x v ns → NodeWay E u v (u ∷ ns)
 
 -- No node stands in the list twice.
 abbrev pub Different : List ℕ → Type 0
@@ -15,10 +15,10 @@ Different [] = Unit {0}
 Different (x ∷ xs) = (Among x xs → ⊥) × Different xs
 
 -- A path from u to v: a way that comes to no node twice.
-pub record Path (E : List Edge) (u v : ℕ) (ns : List ℕ) : Type 0 where
-  pub way : Way E u v ns
+pub record NodePath (E : List Edge) (u v : ℕ) (ns : List ℕ) : Type 0 where
+  pub way : NodeWay E u v ns
   pub different : Different ns
 
 -- Between any two nodes below n there is one path and no other.
-abbrev pub Tree : (n : ℕ) → List Edge → Type 0
-Tree n E = (u v : ℕ) → u < n → v < n → (ns : List ℕ) × Path E u v ns × ((ms : List ℕ) → Path E u v ms → ms ≡ ns)
+abbrev pub IsTree : (n : ℕ) → List Edge → Type 0
+IsTree n E = (u v : ℕ) → u < n → v < n → (ns : List ℕ) × NodePath E u v ns × ((ms : List ℕ) → NodePath E u v ms → ms ≡ ns)

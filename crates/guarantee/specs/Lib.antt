@@ -1,1 +1,1 @@
-pub mod Kept
+pub mod CallsMade

@@ -2,11 +2,11 @@
 ghost use Rattle.std.specs.Prelude.{◌≡◌};
 ghost use Rattle.net_laws.proofs.Owned.{own_meets};
 ghost use Rattle.net_laws.specs.Answers.{JoinAnswers};
-ghost use Rattle.net_laws.specs.Geometry.{World};
-ghost use Rattle.net_laws.specs.Worlds.{Keeps, joining, wiring};
+ghost use Rattle.net_laws.specs.Geometry.{Geometry};
+ghost use Rattle.net_laws.specs.Spaces.{Keeps, joining, wiring};
 ghost use Rattle.net_laws.specs.declared.call.JoinCall.{JoinCall as AnyCall};
 ghost use Rattle.net_laws.specs.declared.call.JoinCall.TheVariants.{Wire};
-ghost use Rattle.guarantee.specs.Kept.{counted};
+ghost use Rattle.guarantee.specs.CallsMade.{counted};
 
 use net::Net;
 use net_laws::{Call, Fault, JoinCall};
@@ -18,15 +18,15 @@ pub trait NetCall<S: Space> {
     ghost among: { Self → AnyCall };
 
     // What a space is to the calls of this kind.
-    ghost world: { S → World };
+    ghost geometry: { S → Geometry };
 
     /// Makes the call, and answers as the method of the net that it stands for; 0 where that answers no number. A refusal leaves the net as it was.
     fn make(&self, net: &mut Net<S>) -> Result<u64, Fault>
-        ensures answer { JoinAnswers (world net.old.space) net.old.state net.new.state (among self.now) result }
+        ensures answer { JoinAnswers (geometry net.old.space) net.old.state net.new.state (among self.now) result }
         ensures stays { net.new.space ≡ net.old.space };
 
     // Every space keeps the laws.
-    ghost keeps: { (s : S) → Keeps (world s) };
+    ghost keeps: { (s : S) → Keeps (geometry s) };
 }
 
 /// The number of a node as an answer.
@@ -47,7 +47,7 @@ fn count(answer: Result<(), Fault>) -> Result<u64, Fault>
 impl<S: Space> NetCall<S> for Call {
     ghost among = { Wire };
 
-    ghost world = { wiring S.Space };
+    ghost geometry = { wiring S.Space };
 
     fn make(&self, net: &mut Net<S>) -> Result<u64, Fault> {
         match *self {
@@ -71,7 +71,7 @@ impl<S: Space> NetCall<S> for Call {
 impl<S: Joining> NetCall<S> for JoinCall {
     ghost among = { λ c. c };
 
-    ghost world = { joining S.Space S.Joining.own };
+    ghost geometry = { joining S.Space S.Joining.own };
 
     fn make(&self, net: &mut Net<S>) -> Result<u64, Fault> {
         match *self {

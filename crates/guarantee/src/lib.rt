@@ -6,4 +6,4 @@ mod answering;
 mod running;
 
 pub use answering::NetCall;
-pub use running::{Made, guarantee, run, runs_keep};
+pub use running::{CallCounts, guarantee, run, runs_keep};

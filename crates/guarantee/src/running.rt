@@ -1,9 +1,9 @@
 // Lists of calls, made on a net.
 ghost use Rattle.std.specs.Prelude.{◌≡◌, ℕ, ◌≤◌, min, map, length, take, Result as Answered, slice_index_or};
-ghost use Rattle.net_laws.specs.Worlds.{joining as joiningWorld, wiring as wiringWorld};
+ghost use Rattle.net_laws.specs.Spaces.{joining as joiningWorld, wiring as wiringWorld};
 ghost use Rattle.net_laws.specs.declared.fault.Fault.{Fault as Refusal};
 ghost use Rattle.net_laws.specs.Guarantee.{RunsKeep};
-ghost use Rattle.guarantee.specs.Kept.{Kept, wired};
+ghost use Rattle.guarantee.specs.CallsMade.{CallsMade, wired};
 
 use crate::answering::NetCall;
 use net::Net;
@@ -19,7 +19,7 @@ pub fn run<S: Space, C: NetCall<S>>(
 ) -> usize
     ensures count { result ≡ min (length calls.now) (length answers.old) }
     ensures kept {
-        Kept (C.world net.old.space) net.old.state (map C.among (take result calls.now)) (take result answers.new)
+        CallsMade (C.geometry net.old.space) net.old.state (map C.among (take result calls.now)) (take result answers.new)
         net.new.state
     }
     ensures rest {
@@ -37,7 +37,7 @@ pub fn run<S: Space, C: NetCall<S>>(
 
 /// How many calls were made on each of two nets.
 #[derive(Clone, Copy, Debug, PartialEq, Eq)]
-pub struct Made {
+pub struct CallCounts {
     /// On the one in the wiring space.
     pub wiring: usize,
     /// On the one in the joining space.
@@ -53,10 +53,10 @@ pub fn guarantee<W: Space, J: Joining>(
     joining: &mut Net<J>,
     joining_calls: &[JoinCall],
     joining_answers: &mut [Result<u64, Fault>],
-) -> Made
+) -> CallCounts
     ensures wiring_count { result.wiring ≡ min (length calls.now) (length answers.old) }
     ensures wiring {
-        Kept (wiringWorld W.Space wiring.old.space) wiring.old.state (wired (take result.wiring calls.now))
+        CallsMade (wiringWorld W.Space wiring.old.space) wiring.old.state (wired (take result.wiring calls.now))
         (take result.wiring answers.new) wiring.new.state
     }
     ensures wiring_rest {
@@ -66,7 +66,7 @@ pub fn guarantee<W: Space, J: Joining>(
     ensures wiring_stays { wiring.new.space ≡ wiring.old.space }
     ensures joining_count { result.joining ≡ min (length joining_calls.now) (length joining_answers.old) }
     ensures joining {
-        Kept (joiningWorld J.Space J.Joining.own joining.old.space) joining.old.state
+        CallsMade (joiningWorld J.Space J.Joining.own joining.old.space) joining.old.state
         (take result.joining joining_calls.now) (take result.joining joining_answers.new) joining.new.state
     }
     ensures joining_rest {
@@ -77,7 +77,7 @@ pub fn guarantee<W: Space, J: Joining>(
 {
     let first = run(wiring, calls, answers);
     let second = run(joining, joining_calls, joining_answers);
-    Made {
+    CallCounts {
         wiring: first,
         joining: second,
     }

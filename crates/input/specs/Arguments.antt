@@ -1,6 +1,6 @@
 -- What the arguments of a program say. Assumes nothing.
 use Rattle.std.specs.Prelude.{◌≡◌, ℕ, ◌⊎◌, List, Some, None, Option}
-use Rattle.walk.specs.Limits.{Within}
+use Rattle.walk_laws.specs.Walk.{LawfulAllowance}
 use Rattle.input.specs.Numbers.{Ratio, WritesNatural}
 use Rattle.input.specs.declared.arguments.BadArgument.{BadArgument}
 use Rattle.input.specs.declared.arguments.BadArgument.TheVariants.{Allowance, Price}
@@ -18,7 +18,7 @@ Says (Some bs) p q = Ratio bs (p, q)
 -- The text writes no ratio, or one that is no allowance.
 abbrev pub Unlawful : Option (List ℕ) → Type 0
 Unlawful t =
-    ((p q : ℕ) → Says t p q → ⊥) ⊎ ((p : ℕ) × (q : ℕ) × Says t p q × (Within p q → ⊥))
+    ((p q : ℕ) → Says t p q → ⊥) ⊎ ((p : ℕ) × (q : ℕ) × Says t p q × (LawfulAllowance p q → ⊥))
 
 -- Why the texts are refused: the first writes no price; or it does, and the second says no allowance.
 abbrev pub Refuses : (price ratio : Option (List ℕ)) → BadArgument → Type 0

@@ -1,5 +1,5 @@
 ghost use Rattle.std.specs.Prelude.{ℕ, IfErr, IfOk, MatchOption, option_copied};
-ghost use Rattle.walk.specs.Limits.{Within};
+ghost use Rattle.walk_laws.specs.Walk.{LawfulAllowance};
 ghost use Rattle.input.specs.Arguments.{Costs, Refuses, Says, Unlawful};
 
 use crate::numbers;
@@ -39,7 +39,7 @@ fn price_of(text: Option<&str>) -> Option<u32>
 fn allowance_of(text: Option<&str>) -> Option<Allowance>
     ensures { MatchOption result
         (Unlawful (option_copied text.entry))
-        (λ a. Says (option_copied text.entry) a.p a.q × Within a.p a.q) }
+        (λ a. Says (option_copied text.entry) a.p a.q × LawfulAllowance a.p a.q) }
 {
     let (p, q) = text.map_or(Some(DEFAULT_RATIO), numbers::ratio)?;
     Allowance::new(u64::from(p), u64::from(q))
@@ -51,7 +51,7 @@ impl Arguments {
         ensures price { IfOk result (λ a. Costs (option_copied price.entry) a.price) }
         ensures allowance { IfOk result (λ a.
             Says (option_copied ratio.entry) a.allowance.p a.allowance.q) }
-        ensures lawful { IfOk result (λ a. Within a.allowance.p a.allowance.q) }
+        ensures lawful { IfOk result (λ a. LawfulAllowance a.allowance.p a.allowance.q) }
         ensures refused { IfErr result
             (Refuses (option_copied price.entry) (option_copied ratio.entry)) }
     {

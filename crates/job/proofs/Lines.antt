@@ -1,17 +1,18 @@
 -- One line more, and the calls of the lines as a run of the net.
 use Rattle.std.proofs.Common.{◌≡◌, ℕ, suc, ◌+◌, ◌≤◌, Bool, List, [], ◌∷◌, ◌++◌, length, refl, sym, ap, ◌∙◌, subst, append_assoc, arith, Result, Ok, Err, Option, Some, None}
 use Rattle.std.proofs.lemmas.List.{append-nil}
-use Rattle.net_laws.specs.Geometry.{World}
+use Rattle.net_laws.specs.Geometry.{Geometry}
 use Rattle.net_laws.specs.Logs.{Log, Runs}
 use Rattle.net_laws.specs.Logs.Runs.{next, still}
 use Rattle.net_laws.specs.States.{State, fresh}
-use Rattle.net_laws.specs.Worlds.{Keeps}
+use Rattle.net_laws.specs.Spaces.{Keeps}
 use Rattle.net_laws.proofs.Keeping.{run_keeps}
 use Rattle.net_laws.proofs.Owned.{own_meets}
 use Rattle.built_spaces.specs.Grid.{plane_meets, plane_metric}
 use Rattle.built_spaces.specs.Lifted.{lifted_meets, lifted_metric, narrow_sum}
 use Rattle.built_spaces.specs.Root.{air_metric}
-use Rattle.space.specs.Laws.{Metric, limit}
+use Rattle.space.specs.Laws.{Metric}
+use Rattle.space.specs.declared.TheConstants.{LONGEST}
 use Rattle.built_spaces.specs.Shapes.{air_between, grid_between, grid_meeting, in_range, lift_admitted, lift_between, lift_width}
 use Rattle.request.specs.declared.requests.Word.{Word}
 use Rattle.request.specs.declared.requests.Word.TheVariants.{Plane, Air}
@@ -23,7 +24,7 @@ use Rattle.reply.specs.Texts.{answer_text}
 use Rattle.reply.specs.declared.reply.Reply.{Reply}
 use Rattle.reply.specs.declared.reply.Reply.TheVariants.{Number, Path, Worst, Rows}
 use Rattle.job.specs.Answering.{Gives, LineGives, New, Told, Under, log_of, made_by, net_of, stage_after, text_from}
-use Rattle.job.specs.Stages.{Follows, Laws, NetFollows, Stage, joins_of, world_of}
+use Rattle.job.specs.Stages.{Follows, Laws, NetFollows, Stage, joins_of, geometry_of}
 use Rattle.job.specs.Stages.Stage.{before, over, without}
 
 pub after_more : (n : Stage) (ts : List Told) (t : Told) → stage_after n (ts ++ t ∷ []) ≡ t.after
@@ -58,7 +59,7 @@ text_both i (x ∷ ts) us =
     ap (λ s. answer_text (net_of x.after) i x.answer ++ s) (text_both (suc i) ts us ∙ ap (λ k. text_from (suc i) ts ++ text_from k us) (omega arith))
     ∙ sym (append_assoc (answer_text (net_of x.after) i x.answer) (text_from (suc i) ts) (text_from (i + suc (length ts)) us))
 
-module _ (W : World) (joins : Bool) where
+module _ (W : Geometry) (joins : Bool) where
   join : {n k m : State} (later sooner : Log) → Runs W n sooner k → Runs W k later m → Runs W n (later ++ sooner) m
   join [] sooner a still = a
   join (e ∷ later) sooner a (next b r) = next (join later sooner a b) r
@@ -117,7 +118,7 @@ nothing_under log s ts e g =
     subst Q (sym (ap (λ x. stage_after x ts) e ∙ stays_without ts (subst P e g))) tt
 
 -- the spaces of a job keep the laws
-keeps_of : (w : Word) (price : Option ℕ) → Keeps (world_of w price)
+keeps_of : (w : Word) (price : Option ℕ) → Keeps (geometry_of w price)
 keeps_of Plane None = record { metric = λ h. plane_metric; meets = λ h. plane_meets }
 keeps_of Plane (Some c) =
     record {
@@ -126,13 +127,13 @@ keeps_of Plane (Some c) =
     }
 keeps_of Air None = record { metric = λ h. air_metric; meets = λ h. own_meets _ _ _ air_metric }
 keeps_of Air (Some c) =
-    let law : (h : lift_width 2828428 c ≤ limit) → Metric (lift_admitted in_range) (lift_width 2828428 c) (lift_between air_between c) =
+    let law : (h : lift_width 2828428 c ≤ LONGEST) → Metric (lift_admitted in_range) (lift_width 2828428 c) (lift_between air_between c) =
     λ h. lifted_metric in_range 2828428 air_between c (narrow_sum 2828428 c h) air_metric in
     record { metric = law; meets = λ h. own_meets _ _ _ (law h) }
 
-over_first : (w : Word) (price : Option ℕ) (s : Stage) (ts : List Told) → s ≡ over (world_of w price) (joins_of w) fresh → Gives s ts → Under (log_of ts ++ []) (stage_after s ts)
+over_first : (w : Word) (price : Option ℕ) (s : Stage) (ts : List Told) → s ≡ over (geometry_of w price) (joins_of w) fresh → Gives s ts → Under (log_of ts ++ []) (stage_after s ts)
 over_first w price s ts e g =
-    let W = world_of w price in
+    let W = geometry_of w price in
     let P : Stage → Type 0 = λ x. Gives x ts in
     let Q : Stage → Type 0 = λ x. Under (log_of ts ++ []) (stage_after x ts) in
     let R : Log → Type 0 = λ l. Under l (stage_after (over W (joins_of w) fresh) ts) in

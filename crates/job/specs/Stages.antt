@@ -1,10 +1,10 @@
 -- What a line gives, by what stands when it is read. Assumes nothing.
 use Rattle.std.specs.Prelude.{◌≡◌, ℕ, Bool, true, false, Ok, Err, Result, Some, None, Option}
 use Rattle.net_laws.specs.Answers.{JoinAnswers}
-use Rattle.net_laws.specs.Geometry.{World}
+use Rattle.net_laws.specs.Geometry.{Geometry}
 use Rattle.net_laws.specs.Readings.{PathAnswer, RowsAnswer, WorstAnswer}
 use Rattle.net_laws.specs.States.{State, fresh}
-use Rattle.net_laws.specs.Worlds.{Keeps}
+use Rattle.net_laws.specs.Spaces.{Keeps}
 use Rattle.net_laws.specs.declared.call.JoinCall.{JoinCall}
 use Rattle.net_laws.specs.declared.call.JoinCall.TheVariants.{Wire, Joined, Share}
 use Rattle.built_spaces.specs.Shapes.{air_between, grid_between, grid_meeting, in_range, lift_admitted, lift_between, lift_meeting, lift_width}
@@ -21,15 +21,15 @@ use Rattle.reply.specs.declared.reply.Reply.TheVariants.{Number, Path, Worst, Ro
 pub data Stage : Type 0 where
   before : Stage
   without : Stage
-  over : World → (joins : Bool) → State → Stage
+  over : Geometry → (joins : Bool) → State → Stage
 
 -- The space that W makes a net over; under a lift where there is a price. (Air has no meet, and no call over it asks for one.)
-abbrev pub world_of : Word → Option ℕ → World
-world_of Plane None = record { admitted = in_range; width = 4000000; between = grid_between; meeting = grid_meeting }
-world_of Plane (Some price) =
+abbrev pub geometry_of : Word → Option ℕ → Geometry
+geometry_of Plane None = record { admitted = in_range; width = 4000000; between = grid_between; meeting = grid_meeting }
+geometry_of Plane (Some price) =
     record { admitted = lift_admitted in_range; width = lift_width 4000000 price; between = lift_between grid_between price; meeting = lift_meeting grid_meeting }
-world_of Air None = record { admitted = in_range; width = 2828428; between = air_between; meeting = λ o a b. o }
-world_of Air (Some price) =
+geometry_of Air None = record { admitted = in_range; width = 2828428; between = air_between; meeting = λ o a b. o }
+geometry_of Air (Some price) =
     record { admitted = lift_admitted in_range; width = lift_width 2828428 price; between = lift_between air_between price; meeting = λ o a b. o }
 
 abbrev pub joins_of : Word → Bool
@@ -45,7 +45,7 @@ has joins Joined = joins
 has joins Share = joins
 
 -- Asked for a call, the net n answers r and is m then.
-abbrev pub Changes : World → Bool → JoinCall → (n m : State) → Result Reply TextFault → Type 0
+abbrev pub Changes : Geometry → Bool → JoinCall → (n m : State) → Result Reply TextFault → Type 0
 Changes W joins c n m (Ok (Number v)) = (has joins c ≡ true) × JoinAnswers W n m c (Ok v)
 Changes W joins c n m (Err (Net e)) = (has joins c ≡ true) × JoinAnswers W n m c (Err e)
 Changes W joins c n m (Err NoCall) = (has joins c ≡ false) × (m ≡ n)
@@ -73,7 +73,7 @@ Tables n (Err OutOfPlace) = ⊥
 Tables n (Err NoCall) = ⊥
 
 -- Asked for the path of the pin k, the net n answers r.
-abbrev pub Paths : World → (n : State) (k : ℕ) → Result Reply TextFault → Type 0
+abbrev pub Paths : Geometry → (n : State) (k : ℕ) → Result Reply TextFault → Type 0
 Paths W n k (Ok (Path r)) = PathAnswer W.between n k (Ok r)
 Paths W n k (Err (Net e)) = PathAnswer W.between n k (Err e)
 Paths W n k (Ok (Number v)) = ⊥
@@ -87,7 +87,7 @@ Paths W n k (Err OutOfPlace) = ⊥
 Paths W n k (Err NoCall) = ⊥
 
 -- Asked for the worst sink, the net n answers r.
-abbrev pub Worsts : World → (n : State) → Result Reply TextFault → Type 0
+abbrev pub Worsts : Geometry → (n : State) → Result Reply TextFault → Type 0
 Worsts W n (Ok (Worst w)) = WorstAnswer W.between n (Ok w)
 Worsts W n (Err (Net e)) = WorstAnswer W.between n (Err e)
 Worsts W n (Ok (Number v)) = ⊥
@@ -101,7 +101,7 @@ Worsts W n (Err OutOfPlace) = ⊥
 Worsts W n (Err NoCall) = ⊥
 
 -- What follows from what a line asks, or from its refusal as text, over the net n: the answer r and the net m. W is only for line 1.
-abbrev pub NetFollows : World → Bool → Result Request TextFault → (n m : State) → Result Reply TextFault → Type 0
+abbrev pub NetFollows : Geometry → Bool → Result Request TextFault → (n m : State) → Result Reply TextFault → Type 0
 NetFollows W joins (Err e) n m r = (r ≡ Err e) × (m ≡ n)
 NetFollows W joins (Ok (asks.Space w price)) n m r = (r ≡ Err OutOfPlace) × (m ≡ n)
 NetFollows W joins (Ok (asks.Change c)) n m r = Changes W joins c n m r
@@ -113,7 +113,7 @@ NetFollows W joins (Ok asks.Worst) n m r = Worsts W n r × (m ≡ n)
 
 -- What follows from what a line asks, or from its refusal as text, at a stage: the answer r and the stage after it. Line 1 has to be a W.
 abbrev pub Follows : Result Request TextFault → Stage → Stage → Result Reply TextFault → Type 0
-Follows (Ok (asks.Space w price)) before s r = (r ≡ Ok (Number 0)) × (s ≡ over (world_of w price) (joins_of w) fresh)
+Follows (Ok (asks.Space w price)) before s r = (r ≡ Ok (Number 0)) × (s ≡ over (geometry_of w price) (joins_of w) fresh)
 Follows (Ok (asks.Change c)) before s r = (r ≡ Err OutOfPlace) × (s ≡ without)
 Follows (Ok asks.Rows) before s r = (r ≡ Err OutOfPlace) × (s ≡ without)
 Follows (Ok (asks.Path k)) before s r = (r ≡ Err OutOfPlace) × (s ≡ without)

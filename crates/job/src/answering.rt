@@ -43,7 +43,7 @@ fn answer<S: Space, C: JobCall<S>>(
     asked: Result<Request, TextFault>,
 ) -> Result<Reply, TextFault>
     ensures gives {
-        NetFollows (C.NetCall.world net.old.space) C.JobCall.joins asked net.old.state net.new.state result
+        NetFollows (C.NetCall.geometry net.old.space) C.JobCall.joins asked net.old.state net.new.state result
     }
     ensures stays { net.new.space ≡ net.old.space }
 {
@@ -60,7 +60,7 @@ fn answer<S: Space, C: JobCall<S>>(
 }
 
 impl<S: Space, C: JobCall<S>> Answerer for OverNet<S, C> {
-    ghost stage = { λ o. overNet (C.NetCall.world o.net.space) C.JobCall.joins o.net.state };
+    ghost stage = { λ o. overNet (C.NetCall.geometry o.net.space) C.JobCall.joins o.net.state };
 
     ghost laws = { λ o. C.NetCall.keeps o.net.space };
 

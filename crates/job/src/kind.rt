@@ -16,7 +16,7 @@ pub(crate) trait JobCall<S: Space>: NetCall<S> + Copy {
         ensures same { IfSome result (λ c. Self.NetCall.among c ≡ call) };
 
     // Calls of this kind go by the space's own distance.
-    ghost measures: { (s : S) → (Self.NetCall.world s).between ≡ S.Space.between s };
+    ghost measures: { (s : S) → (Self.NetCall.geometry s).between ≡ S.Space.between s };
 }
 
 impl<S: Space> JobCall<S> for Call {

@@ -6,7 +6,7 @@ ghost use Rattle.reply.specs.declared.reply.Reply.TheVariants.{Number};
 ghost use Rattle.job.specs.Answering.{net_of};
 ghost use Rattle.job.specs.Jobs.{AsksNet, Begun, JobRan};
 ghost use Rattle.job.specs.Stages.Stage.{before, over, without};
-ghost use Rattle.job.specs.Stages.{Follows, joins_of, world_of};
+ghost use Rattle.job.specs.Stages.{Follows, joins_of, geometry_of};
 
 use crate::answering::{Answerer, NoNet, OverNet};
 use crate::kind::JobCall;
@@ -56,7 +56,7 @@ fn run_over<S: Space + Drop, C: JobCall<S>>(
 ) -> Result<Outcome, AllocError>
     ensures begun {
         IfOk result (λ o.
-        Begun (over (C.NetCall.world space) C.JobCall.joins fresh) (Ok (Number 0)) rest.now out.old out.new o)
+        Begun (over (C.NetCall.geometry space) C.JobCall.joins fresh) (Ok (Number 0)) rest.now out.old out.new o)
     }
     ensures err { OnErr result (out.new ≡ out.old) }
 {
@@ -78,7 +78,7 @@ fn run_in(
 ) -> Result<Outcome, AllocError>
     ensures begun {
         IfOk result (λ o.
-        Begun (over (world_of word price) (joins_of word) fresh) (Ok (Number 0)) rest.now out.old out.new o)
+        Begun (over (geometry_of word price) (joins_of word) fresh) (Ok (Number 0)) rest.now out.old out.new o)
     }
     ensures err { OnErr result (out.new ≡ out.old) }
 {

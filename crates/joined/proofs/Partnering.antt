@@ -9,7 +9,7 @@ use Rattle.order.proofs.Finding.{among_either, among_left, among_none, among_one
 use Rattle.space.specs.declared.Space.{Ghosts}
 use Rattle.space.specs.declared.spot.Spot.{Spot}
 use Rattle.tree_laws.specs.declared.Row.{Row}
-use Rattle.tree_laws.specs.Distances.{reach_of}
+use Rattle.space.specs.Totals.{capped_distance}
 use Rattle.order.specs.Bests.{BestOf, Decides}
 use Rattle.order.specs.Lexical.{then_above, then_level}
 use Rattle.order.proofs.Deciding.{Below, decides_first}
@@ -221,5 +221,5 @@ module _ (d : Spot → Spot → ℕ) (j : Spot → Spot → Spot → Spot) (rows
   best_none group q a b h = absurd (q (pair_of d j rows a b) (paired group a b h))
 
 -- no meet is farther than a distance can be
-pub never_farther : {X : Type 0} (G : Ghosts X) (s : X) (j : Spot → Spot → Spot → Spot) (rows : List Row) (group : List ℕ) (b : ℕ) → NoFarther (reach_of G s) j rows group b 100000000
+pub never_farther : {X : Type 0} (G : Ghosts X) (s : X) (j : Spot → Spot → Spot → Spot) (rows : List Row) (group : List ℕ) (b : ℕ) → NoFarther (capped_distance G s) j rows group b 100000000
 never_farther G s j rows group b p q = omega (arith, q.long)

@@ -6,14 +6,14 @@ use Rattle.std.proofs.lemmas.Bool.{cases_eq}
 use Rattle.order.specs.Firsts.{Among}
 use Rattle.space.specs.declared.spot.Spot.{Spot}
 use Rattle.tree_laws.specs.declared.Row.{Row}
-use Rattle.tree_laws.specs.Trees.{Child, Tree}
+use Rattle.tree_laws.specs.Trees.{Child, RowTree}
 use Rattle.share.specs.Meets.{Insertable}
 use Rattle.build_laws.specs.Joining.{Farthest, PairOf, far_of, meet_group, meet_row, others}
 use Rattle.build_laws.specs.Joining.Joins.{join}
 use Rattle.build_laws.specs.declared.pair.Pair.{Pair}
 use Rattle.build_laws.proofs.Joined.{among_kept}
 use Rattle.build_laws.proofs.Meeting.{Old, far_kept, member_of, new_member, old_member, others_first, others_second, step_hung, step_length}
-use Rattle.joined.specs.Joinings.{Joinable, Rising, Standing, Stepped}
+use Rattle.joined.specs.Joinings.{Joinable, Rising, JoiningState, Stepped}
 use Rattle.joined.specs.Pairs.{Firsts, Partner, Ready}
 use Rattle.joined.proofs.Keeping.{among_here, kept_two_less}
 use Rattle.joined.proofs.Partnering.{then_lead}
@@ -21,7 +21,7 @@ use Rattle.joined.proofs.Rising.{rising_few, rising_push}
 
 -- ---- the group and its pairs after a step
 
-module _ (d : Spot → Spot → ℕ) (j : Spot → Spot → Spot → Spot) (rows : List Row) (t : Tree rows) (group : List ℕ) (hung : (g : ℕ) → Among g group → Child rows 0 g) (a b : ℕ) (q : PairOf d j group a b) where
+module _ (d : Spot → Spot → ℕ) (j : Spot → Spot → Spot → Spot) (rows : List Row) (t : RowTree rows) (group : List ℕ) (hung : (g : ℕ) → Among g group → Child rows 0 g) (a b : ℕ) (q : PairOf d j group a b) where
   abbrev after : List Row
   after = meet_row d j rows a b
 
@@ -86,7 +86,7 @@ module _ (d : Spot → Spot → ℕ) (j : Spot → Spot → Spot → Spot) (rows
 
 -- ---- what a step needs and keeps
 
-module _ (d : Spot → Spot → ℕ) (j : Spot → Spot → Spot → Spot) (rows : List Row) (t : Tree rows) (group : List ℕ) (F : List Pair) (s : Standing d j rows group F) (a b : ℕ) (q : PairOf d j group a b) where
+module _ (d : Spot → Spot → ℕ) (j : Spot → Spot → Spot → Spot) (rows : List Row) (t : RowTree rows) (group : List ℕ) (F : List Pair) (s : JoiningState d j rows group F) (a b : ℕ) (q : PairOf d j group a b) where
   pub step_parts : Insertable rows 0 a b
   step_parts =
       record {
@@ -96,7 +96,7 @@ module _ (d : Spot → Spot → ℕ) (j : Spot → Spot → Spot → Spot) (rows
         room = omega (arith, s.room, step_shorter d j rows t group s.hung a b q);
       }
 
-  pub step_standing : (G : List Pair) → Firsts d j (meet_row d j rows a b) (meet_group d j group a b (length rows)) G → length G ≤ length F + 1 → Standing d j (meet_row d j rows a b) (meet_group d j group a b (length rows)) G
+  pub step_standing : (G : List Pair) → Firsts d j (meet_row d j rows a b) (meet_group d j group a b (length rows)) G → length G ≤ length F + 1 → JoiningState d j (meet_row d j rows a b) (meet_group d j group a b (length rows)) G
   step_standing G f h =
       let n = step_length d j rows t group s.hung a b q in
       record {
@@ -140,7 +140,7 @@ module _ (d : Spot → Spot → ℕ) (j : Spot → Spot → Spot → Spot) (rows
 
 -- ---- the start
 
-pub standing_start : (d : Spot → Spot → ℕ) (j : Spot → Spot → Spot → Spot) (rows : List Row) (group : List ℕ) (F : List Pair) → Tree rows → Joinable rows group → Firsts d j rows group F → length F ≤ length group → Standing d j rows group F
+pub standing_start : (d : Spot → Spot → ℕ) (j : Spot → Spot → Spot → Spot) (rows : List Row) (group : List ℕ) (F : List Pair) → RowTree rows → Joinable rows group → Firsts d j rows group F → length F ≤ length group → JoiningState d j rows group F
 standing_start d j rows group F t h f few =
     let at : (k : ℕ) → k < length group → Child rows 0 (get_or group k 0) = λ k l. h.hung (get_or group k 0) (among_here group k 0 l) in
     let n : length group < length rows =

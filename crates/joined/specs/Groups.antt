@@ -2,7 +2,7 @@
 use Rattle.std.specs.Prelude.{ℕ, List, Option}
 use Rattle.space.specs.declared.Space.{Ghosts}
 use Rattle.space.specs.declared.Joining.{Ghosts as JoinGhosts}
-use Rattle.tree_laws.specs.Distances.{join_of, reach_of}
+use Rattle.space.specs.Totals.{meet_or_start, capped_distance}
 use Rattle.build_laws.specs.declared.pair.Pair.{Pair}
 use Rattle.joined.specs.declared.partners.Change.{Change}
 use Rattle.joined.specs.declared.partners.Group.{Group}
@@ -10,32 +10,32 @@ use Rattle.joined.specs.Pairs.{Firsts, NoFarther, Partner, PartnerAt, Ready, Ren
 
 -- The pair of two rows.
 abbrev pub pair_in : {X : Type 0} → (G : Ghosts X) → (J : JoinGhosts X) → Group X J G → (a b : ℕ) → Pair
-pair_in G J g a b = pair_of (reach_of G g.space.now) (join_of G J g.space.now) g.table.now.rows a b
+pair_in G J g a b = pair_of (capped_distance G g.space.now) (meet_or_start G J g.space.now) g.table.now.rows a b
 
 -- p is a pair of b with a lower member.
 abbrev pub PartnerIn : {X : Type 0} → (G : Ghosts X) → (J : JoinGhosts X) → Group X J G → (b : ℕ) → Pair → Type 0
-PartnerIn G J g b p = Partner (reach_of G g.space.now) (join_of G J g.space.now) g.table.now.rows g.members.now b p
+PartnerIn G J g b p = Partner (capped_distance G g.space.now) (meet_or_start G J g.space.now) g.table.now.rows g.members.now b p
 
 -- p is the pair of b with the member at the place i, where that is lower.
 abbrev pub PartnerAtIn : {X : Type 0} → (G : Ghosts X) → (J : JoinGhosts X) → Group X J G → (b i : ℕ) → Pair → Type 0
-PartnerAtIn G J g b i p = PartnerAt (reach_of G g.space.now) (join_of G J g.space.now) g.table.now.rows g.members.now b i p
+PartnerAtIn G J g b i p = PartnerAt (capped_distance G g.space.now) (meet_or_start G J g.space.now) g.table.now.rows g.members.now b i p
 
 -- No pair of b with a lower member is farther than f.
 abbrev pub NoneFarther : {X : Type 0} → (G : Ghosts X) → (J : JoinGhosts X) → Group X J G → (b f : ℕ) → Type 0
-NoneFarther G J g b f = NoFarther (reach_of G g.space.now) (join_of G J g.space.now) g.table.now.rows g.members.now b f
+NoneFarther G J g b f = NoFarther (capped_distance G g.space.now) (meet_or_start G J g.space.now) g.table.now.rows g.members.now b f
 
 -- F holds the first pair of each member that has a lower one, and nothing else.
 abbrev pub FirstsIn : {X : Type 0} → (G : Ghosts X) → (J : JoinGhosts X) → Group X J G → List Pair → Type 0
-FirstsIn G J g F = Firsts (reach_of G g.space.now) (join_of G J g.space.now) g.table.now.rows g.members.now F
+FirstsIn G J g F = Firsts (capped_distance G g.space.now) (meet_or_start G J g.space.now) g.table.now.rows g.members.now F
 
 -- What an old pair tells after a step.
 abbrev pub StaleIn : {X : Type 0} → (G : Ghosts X) → (J : JoinGhosts X) → Group X J G → Change → Pair → Type 0
-StaleIn G J g c old = Stale (reach_of G g.space.now) (join_of G J g.space.now) g.table.now.rows g.members.now c.a c.b old
+StaleIn G J g c old = Stale (capped_distance G g.space.now) (meet_or_start G J g.space.now) g.table.now.rows g.members.now c.a c.b old
 
 -- The first pair of the member of an old pair, unless it has gone.
 abbrev pub RenewedIn : {X : Type 0} → (G : Ghosts X) → (J : JoinGhosts X) → Group X J G → Change → Pair → Option Pair → Type 0
-RenewedIn G J g c old new = Renewed (reach_of G g.space.now) (join_of G J g.space.now) g.table.now.rows g.members.now c.a c.b old new
+RenewedIn G J g c old new = Renewed (capped_distance G g.space.now) (meet_or_start G J g.space.now) g.table.now.rows g.members.now c.a c.b old new
 
 -- The old pairs serve the group after a step.
 abbrev pub ReadyIn : {X : Type 0} → (G : Ghosts X) → (J : JoinGhosts X) → Group X J G → Change → List Pair → Type 0
-ReadyIn G J g c F = Ready (reach_of G g.space.now) (join_of G J g.space.now) g.table.now.rows g.members.now c.a c.b c.new F
+ReadyIn G J g c F = Ready (capped_distance G g.space.now) (meet_or_start G J g.space.now) g.table.now.rows g.members.now c.a c.b c.new F

@@ -9,7 +9,7 @@ use search::first;
 use share::{hangs, insert_meet};
 use space::Joining;
 use std::alloc::{AllocError, Global};
-use tree::{ROWS, Table};
+use tree::{ROWS, Tree};
 
 /// The memory for joining, reserved once: the group, and the first pair of each member.
 #[derive(Drop)]
@@ -28,14 +28,14 @@ fn rises(members: &[usize]) -> bool
 }
 
 /// Whether each member is a row that hangs on the driver.
-fn all_hang(table: &Table, members: &[usize]) -> bool
+fn all_hang(table: &Tree, members: &[usize]) -> bool
     ensures { IsTrue result ↔ AllHang table.now.rows members.now }
 {
     members.iter().all(|&member| hangs(table, 0, member))
 }
 
 /// Whether the members are rows that hang on the driver, in rising order, with room for a new row for each.
-fn joinable(table: &Table, members: &[usize]) -> bool
+fn joinable(table: &Tree, members: &[usize]) -> bool
     ensures { IsTrue result ↔ Joinable table.now.rows members.now }
 {
     members.len() <= ROWS - table.len() && rises(members) && all_hang(table, members)
@@ -65,7 +65,7 @@ fn fill(group: &mut Vec<usize>, members: &[usize])
 
 impl Joiner {
     ghost use Rattle.std.specs.Prelude.{[], IfOk};
-    ghost use Rattle.joined.specs.Joiners.{Stands, Steps, members_of};
+    ghost use Rattle.joined.specs.Joiners.{JoiningStands, Steps, members_of};
     ghost use Rattle.joined.specs.Joinings.{JoinedBy};
 
     /// Room for as many members as a table can have rows, and none yet.
@@ -78,9 +78,9 @@ impl Joiner {
     }
 
     /// Makes the members the group and finds the first pair of each.
-    fn begin<S: Joining>(&mut self, space: &S, table: &Table, members: &[usize])
+    fn begin<S: Joining>(&mut self, space: &S, table: &Tree, members: &[usize])
         requires { Joinable table.now.rows members.now }
-        ensures standing { Stands S.Space S.Joining.own space.now table.now.rows self.new }
+        ensures standing { JoiningStands S.Space S.Joining.own space.now table.now.rows self.new }
         ensures members { members_of self.new ≡ members.now }
     {
         fill(&mut self.group, members);
@@ -93,8 +93,8 @@ impl Joiner {
     }
 
     /// Joins the first pair of all, and answers whether there is one whose meet is not 0 from the driver.
-    fn step<S: Joining>(&mut self, space: &S, table: &mut Table) -> bool
-        requires { Stands S.Space S.Joining.own space.now table.old.rows self.old }
+    fn step<S: Joining>(&mut self, space: &S, table: &mut Tree) -> bool
+        requires { JoiningStands S.Space S.Joining.own space.now table.old.rows self.old }
         ensures { Steps S.Space S.Joining.own space.now table.old.rows self.old result
             table.new.rows self.new }
     {
@@ -126,7 +126,7 @@ impl Joiner {
     pub fn join<S: Joining>(
         &mut self,
         space: &S,
-        table: &mut Table,
+        table: &mut Tree,
         members: &[usize],
     ) -> Option<u64>
         ensures { JoinedBy S.Space S.Joining.own space.now table.old members.now result table.new }

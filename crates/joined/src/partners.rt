@@ -6,15 +6,14 @@ ghost use Rattle.joined.specs.Joinings.{Rising};
 
 use build_laws::Pair;
 use search::first_until;
-use share::join;
-use space::{Joining, LONGEST};
-use tree::{Table, reach};
+use space::{Joining, LONGEST, capped_distance, meet_or_start};
+use tree::Tree;
 
 /// The members of a group, the table of their rows, and the space that measures it.
 #[derive(Drop)]
 pub(crate) struct Group<'a, S: Joining> {
     pub space: &'a S,
-    pub table: &'a Table,
+    pub table: &'a Tree,
     pub members: &'a [usize],
     ghost few: { length members.now ≤ ROWS },
     ghost rising: { Rising members.now },
@@ -38,8 +37,8 @@ impl<'a, S: Joining> Group<'a, S> {
         let driver = self.table.at(0).spot;
         let one = self.table.at(a).spot;
         let two = self.table.at(b).spot;
-        let meet = join(self.space, driver, one, two);
-        let far = reach(self.space, driver, meet);
+        let meet = meet_or_start(self.space, driver, one, two);
+        let far = capped_distance(self.space, driver, meet);
         Pair { far, a, b }
     }
 

@@ -7,10 +7,10 @@ use Rattle.std.specs.Result.{result_unwrap_or}
 use Rattle.build_laws.specs.Joining.{Joins}
 use Rattle.forest.specs.declared.Edge.{Edge}
 use Rattle.net_laws.specs.Answers.{JoinedAnswer, PinAnswer, StraightAnswer, Unchanged}
-use Rattle.net_laws.specs.Geometry.{World}
+use Rattle.net_laws.specs.Geometry.{Geometry}
 use Rattle.net_laws.specs.Readings.{figure_of}
 use Rattle.net_laws.specs.States.{State, with_pin, with_tree}
-use Rattle.net_laws.specs.Worlds.{cut, joining, wiring}
+use Rattle.net_laws.specs.Spaces.{made_total, joining, wiring}
 use Rattle.net_laws.specs.declared.fault.Fault.{Fault}
 use Rattle.net_laws.specs.declared.fault.Fault.TheVariants.{TooClose}
 use Rattle.net_lemmas.proofs.Builds.{joined_tree, straight_tree}
@@ -18,25 +18,26 @@ use Rattle.net_lemmas.proofs.Moves.{only}
 use Rattle.seed.specs.declared.store.SeedFault.{SeedFault}
 use Rattle.seed.specs.declared.store.SeedFault.TheVariants as refusal
 use Rattle.seed.specs.declared.store.Seed.{Seed}
-use Rattle.tree_laws.specs.Distances.{join_of, reach_of}
-use Rattle.space.specs.Laws.{answered, limit}
+use Rattle.space.specs.Totals.{meet_or_start, capped_distance, edge_length}
+use Rattle.space.specs.Laws.{answered}
+use Rattle.space.specs.declared.TheConstants.{LONGEST}
 use Rattle.space.specs.declared.Joining.{Ghosts as JoinGhosts}
 use Rattle.space.specs.declared.Space.{Ghosts}
 use Rattle.space.specs.declared.spot.Spot.{Spot}
 use Rattle.span.specs.Grown.{Grown, Spanned}
-use Rattle.span.specs.Lengths.{length_of, lengths}
+use Rattle.span.specs.Lengths.{lengths}
 use Rattle.space.specs.Spots.{origin, spot_of}
-use Rattle.span_laws.specs.Spanning.{Spanning}
+use Rattle.span_laws.specs.Spanning.{SpanningSeed}
 use Rattle.span_laws.proofs.Steps.{spanning_agrees}
 use Rattle.straight.specs.Built.{Answer, Matches, Straightened}
-use Rattle.tree.specs.declared.table.Table.{Table}
+use Rattle.tree.specs.declared.table.Tree.{Tree}
 use Rattle.tree_laws.specs.Trees.{path_length}
 use Rattle.tree_laws.specs.declared.Row.{Row}
 use Rattle.walk.specs.declared.allowance.Allowance.{Allowance}
-use Rattle.net.specs.Held.{JoinsIn, ReadyAnswer, StraightBuilt, Straightens, standing}
+use Rattle.net.specs.Held.{JoinsIn, ReadyAnswer, StraightBuilt, Straightens, rows_standing}
 
 -- where the rows stand, they are those of the table
-pub stood : (b : Bool) (t : Table) (rows : List Row) → standing b t ≡ Some rows → (b ≡ true) × (rows ≡ t.rows)
+pub stood : (b : Bool) (t : Tree) (rows : List Row) → rows_standing b t ≡ Some rows → (b ≡ true) × (rows ≡ t.rows)
 stood true t rows e = (refl, cc)
 stood false t rows e = let z : ◌≡◌ {A = ℕ} 0 1 = cc in absurd (omega arith)
 
@@ -49,44 +50,44 @@ grown G s pins t₀ (Err refusal.Short) t h some few = absurd h
 grown G s pins t₀ (Err refusal.Long) t h some few = absurd h
 
 -- a spot that is apart from the first spots is apart from those numbers among all spots
-pub first_apart : {X : Type 0} (G : Ghosts X) (s : X) (z : Spot) (some spots : List Spot) (n : ℕ) → some ≡ spots → n ≤ length spots → (b : Bool) → Decides b ((k : ℕ) → k < length (take n some) → 1 ≤ reach_of G s (spot_of (take n some) k) z) → Decides b ((k : ℕ) → k < n → 1 ≤ reach_of G s (spot_of spots k) z)
+pub first_apart : {X : Type 0} (G : Ghosts X) (s : X) (z : Spot) (some spots : List Spot) (n : ℕ) → some ≡ spots → n ≤ length spots → (b : Bool) → Decides b ((k : ℕ) → k < length (take n some) → 1 ≤ capped_distance G s (spot_of (take n some) k) z) → Decides b ((k : ℕ) → k < n → 1 ≤ capped_distance G s (spot_of spots k) z)
 first_apart G s z some spots n e h b d =
-    let P : List Spot → Type 0 = λ xs. Decides b ((k : ℕ) → k < length (take n xs) → 1 ≤ reach_of G s (spot_of (take n xs) k) z) in
+    let P : List Spot → Type 0 = λ xs. Decides b ((k : ℕ) → k < length (take n xs) → 1 ≤ capped_distance G s (spot_of (take n xs) k) z) in
     let f = subst P e d in
     let m : length (take n spots) ≡ n = simp length-take (omega arith) in
     let here : (k : ℕ) → k < n → spot_of (take n spots) k ≡ spot_of spots k = λ k l. rw get_or-take in (
-      λ t k l. omega (arith, f.0 t k (omega (arith, m)), ap (λ x. reach_of G s x z) (here k l)),
-      λ q. f.1 (λ k l. omega (arith, q k (omega (arith, m)), ap (λ x. reach_of G s x z) (here k (omega (arith, m))))),
+      λ t k l. omega (arith, f.0 t k (omega (arith, m)), ap (λ x. capped_distance G s x z) (here k l)),
+      λ q. f.1 (λ k l. omega (arith, q k (omega (arith, m)), ap (λ x. capped_distance G s x z) (here k (omega (arith, m))))),
     )
 
 -- what the first spots span is spanned by those numbers among all spots
-pub first_span : {X : Type 0} (G : Ghosts X) (s : X) (spots front : List Spot) (n : ℕ) → front ≡ take n spots → n ≤ length spots → (E : List Edge) → Spanning (length front) (lengths G s front) E → Spanning n (lengths G s spots) E
+pub first_span : {X : Type 0} (G : Ghosts X) (s : X) (spots front : List Spot) (n : ℕ) → front ≡ take n spots → n ≤ length spots → (E : List Edge) → SpanningSeed (length front) (lengths G s front) E → SpanningSeed n (lengths G s spots) E
 first_span G s spots front n e h E w =
-    let P : List Spot → Type 0 = λ xs. Spanning (length xs) (lengths G s xs) E in
-    let Q : ℕ → Type 0 = λ k. Spanning k (lengths G s (take n spots)) E in
+    let P : List Spot → Type 0 = λ xs. SpanningSeed (length xs) (lengths G s xs) E in
+    let Q : ℕ → Type 0 = λ k. SpanningSeed k (lengths G s (take n spots)) E in
     let m : length (take n spots) ≡ n = simp length-take (omega arith) in
     spanning_agrees n (lengths G s (take n spots)) (lengths G s spots)
-    (λ u v a b ne. ap (λ z. length_of G s z (spot_of (take n spots) v)) (here u a) ∙ ap (λ z. length_of G s (spot_of spots u) z) (here v b))
+    (λ u v a b ne. ap (λ z. edge_length G s z (spot_of (take n spots) v)) (here u a) ∙ ap (λ z. edge_length G s (spot_of spots u) z) (here v b))
     E (subst Q m (subst P e w))
   where
     here : (u : ℕ) → u < n → spot_of (take n spots) u ≡ spot_of spots u
     here u a = rw get_or-take
 
 -- of a seed that is a tree with a spot for each node, a tree is built
-pub straightened : {X : Type 0} (G : Ghosts X) (s : X) (t₀ : Table) (before : List ℕ) (spots all : List Spot) (p q pins : ℕ) (seed : Seed) (found : List ℕ) (r : Option ℕ) (t : Table) → Answer G s t₀ before spots p q pins seed found r t → spots ≡ all → Matches seed all → (w : ℕ) → w ≡ unwrap_or r 0 → Straightened (reach_of G s) all p q pins (length all) seed.edges found w t.rows
+pub straightened : {X : Type 0} (G : Ghosts X) (s : X) (t₀ : Tree) (before : List ℕ) (spots all : List Spot) (p q pins : ℕ) (seed : Seed) (found : List ℕ) (r : Option ℕ) (t : Tree) → Answer G s t₀ before spots p q pins seed found r t → spots ≡ all → Matches seed all → (w : ℕ) → w ≡ unwrap_or r 0 → Straightened (capped_distance G s) all p q pins (length all) seed.edges found w t.rows
 straightened G s t₀ before spots all p q pins seed found None t h e m w v = let M : List Spot → Type 0 = λ xs. Matches seed xs in absurd (h.0 (subst M (sym e) m))
 straightened G s t₀ before spots all p q pins seed found (Some x) t h e m w v =
-    let S : List Spot → Type 0 = λ xs. Straightened (reach_of G s) xs p q pins seed.nodes seed.edges found x t.rows in
-    let N : ℕ → Type 0 = λ n. Straightened (reach_of G s) all p q pins n seed.edges found x t.rows in
-    let W : ℕ → Type 0 = λ k. Straightened (reach_of G s) all p q pins (length all) seed.edges found k t.rows in
+    let S : List Spot → Type 0 = λ xs. Straightened (capped_distance G s) xs p q pins seed.nodes seed.edges found x t.rows in
+    let N : ℕ → Type 0 = λ n. Straightened (capped_distance G s) all p q pins n seed.edges found x t.rows in
+    let W : ℕ → Type 0 = λ k. Straightened (capped_distance G s) all p q pins (length all) seed.edges found k t.rows in
     subst W (sym v) (subst N m.1 (subst S e h.1))
 
 -- what a build of a state that is ready answers
-pub straight_told : {X : Type 0} (G : Ghosts X) (s : X) (n m : State) (a : Allowance) (listed : List ℕ) (w : ℕ) → ReadyAnswer n (Ok a) → Straightens (reach_of G s) a n listed w m → StraightAnswer (cut (wiring G s)) n m (Ok w)
+pub straight_told : {X : Type 0} (G : Ghosts X) (s : X) (n m : State) (a : Allowance) (listed : List ℕ) (w : ℕ) → ReadyAnswer n (Ok a) → Straightens (capped_distance G s) a n listed w m → StraightAnswer (made_total (wiring G s)) n m (Ok w)
 straight_told G s n m a listed w r t =
-    (r.0, (r.1.0, (r.1.1.0, (a.p, a.q, t.rows, r.1.1.1, straight_tree (reach_of G s) n.spots n.pins a.p a.q n.edges listed w t.rows t.straight, t.straight.wire, t.stands))))
+    (r.0, (r.1.0, (r.1.1.0, (a.p, a.q, t.rows, r.1.1.1, straight_tree (capped_distance G s) n.spots n.pins a.p a.q n.edges listed w t.rows t.straight, t.straight.wire, t.stands))))
 
-pub straight_answered : {X : Type 0} (G : Ghosts X) (s : X) (n m : State) (listed : List ℕ) (r : Result ℕ Fault) → StraightBuilt (reach_of G s) n listed r m → StraightAnswer (cut (wiring G s)) n m r
+pub straight_answered : {X : Type 0} (G : Ghosts X) (s : X) (n m : State) (listed : List ℕ) (r : Result ℕ Fault) → StraightBuilt (capped_distance G s) n listed r m → StraightAnswer (made_total (wiring G s)) n m r
 straight_answered G s n m listed (Ok w) h = straight_told G s n m h.0 listed w h.1 h.2
 straight_answered G s n m listed (Err e) h = h.0
 
@@ -99,10 +100,10 @@ straight_same d n m listed (Ok w) h e = let z : ◌≡◌ {A = ℕ} 0 1 = cc in 
 straight_same d n m listed (Err f) h e = h.1
 
 -- and joined after it
-pub joined_told : {X : Type 0} (G : Ghosts X) (J : JoinGhosts X) (s : X) (n k m : State) (a : Allowance) (listed members : List ℕ) (w v : ℕ) → ReadyAnswer n (Ok a) → Straightens (reach_of G s) a n listed w k → members ≡ listed → JoinsIn (reach_of G s) (join_of G J s) k members v m → JoinedAnswer (cut (joining G J s)) n m (Ok v)
+pub joined_told : {X : Type 0} (G : Ghosts X) (J : JoinGhosts X) (s : X) (n k m : State) (a : Allowance) (listed members : List ℕ) (w v : ℕ) → ReadyAnswer n (Ok a) → Straightens (capped_distance G s) a n listed w k → members ≡ listed → JoinsIn (capped_distance G s) (meet_or_start G J s) k members v m → JoinedAnswer (made_total (joining G J s)) n m (Ok v)
 joined_told G J s n k m a listed members w v r t e h =
-    let d = reach_of G s in
-    let j = join_of G J s in
+    let d = capped_distance G s in
+    let j = meet_or_start G J s in
     let same : h.rows ≡ t.rows = only k.tree h.rows t.rows h.stood (ap (λ (x : State). x.tree) t.stands) in
     let P : List Row → Type 0 = λ xs. Joins d j xs members h.after in
     let Q : List ℕ → Type 0 = λ ys. Joins d j t.rows ys h.after in
@@ -113,10 +114,10 @@ not_both : (b : Bool) → b ≡ true → b ≡ false → ⊥
 not_both b p q = let z : ◌≡◌ {A = ℕ} 0 1 = cc in omega arith
 
 -- an earlier pin is too close, or none is and the pin is added
-pub too_close : (W : World) (n : State) (z : Spot) (b : Bool) → W.width ≤ limit → W.admitted z ≡ true → n.pins < 256 → Decides b ((k : ℕ) → k < n.pins → 1 ≤ W.between (spot_of n.spots k) z) → b ≡ false → PinAnswer W n n z (Err TooClose)
+pub too_close : (W : Geometry) (n : State) (z : Spot) (b : Bool) → W.width ≤ LONGEST → W.admitted z ≡ true → n.pins < 256 → Decides b ((k : ℕ) → k < n.pins → 1 ≤ W.between (spot_of n.spots k) z) → b ≡ false → PinAnswer W n n z (Err TooClose)
 too_close W n z b wide admitted few d e = inr (wide, inr (admitted, inr (few, inl (λ q. not_both b (d.1 q) e, refl))))
 
-pub pin_added : (W : World) (n m : State) (z : Spot) (b : Bool) (k : ℕ) → W.width ≤ limit → W.admitted z ≡ true → n.pins < 256 → Decides b ((k : ℕ) → k < n.pins → 1 ≤ W.between (spot_of n.spots k) z) → b ≡ true → k ≡ n.pins → m ≡ with_pin n z → PinAnswer W n m z (Ok k)
+pub pin_added : (W : Geometry) (n m : State) (z : Spot) (b : Bool) (k : ℕ) → W.width ≤ LONGEST → W.admitted z ≡ true → n.pins < 256 → Decides b ((k : ℕ) → k < n.pins → 1 ≤ W.between (spot_of n.spots k) z) → b ≡ true → k ≡ n.pins → m ≡ with_pin n z → PinAnswer W n m z (Ok k)
 pin_added W n m z b k wide admitted few d e number added = (wide, (admitted, (few, (d.0 e, (number, added)))))
 
 -- the path of a row that there is

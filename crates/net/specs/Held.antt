@@ -11,7 +11,7 @@ use Rattle.share.specs.declared.sharing.ShareFault.{ShareFault}
 use Rattle.share.specs.declared.sharing.ShareFault.TheVariants.{Nothing, Full}
 use Rattle.space.specs.declared.spot.Spot.{Spot}
 use Rattle.straight.specs.Built.{Straightened}
-use Rattle.tree.specs.declared.table.Table.{Table}
+use Rattle.tree.specs.declared.table.Tree.{Tree}
 use Rattle.tree_laws.specs.Trees.{wire_of}
 use Rattle.tree_laws.specs.declared.Row.{Row}
 use Rattle.walk.specs.declared.allowance.Allowance.{Allowance}
@@ -22,9 +22,9 @@ ratio_of None = None
 ratio_of (Some a) = Some (a.p, a.q)
 
 -- The rows of the table, if they stand as the tree.
-abbrev pub standing : Bool → Table → Option (List Row)
-standing true t = Some t.rows
-standing false t = None
+abbrev pub rows_standing : Bool → Tree → Option (List Row)
+rows_standing true t = Some t.rows
+rows_standing false t = None
 
 -- The check of Q answers r: where Q does not hold, it refuses by e.
 abbrev pub Checked : {F : Type 0} → (Q : Type 0) → (e : F) → Result (Unit {0}) F → Type 0

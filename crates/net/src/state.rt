@@ -5,24 +5,24 @@ ghost use Rattle.net.specs.declared.state.TheConstants.{PINS, POINTS};
 ghost use Rattle.net.specs.Held.{Checked, JoinableIn, JoinsIn, StraightBuilt, fault_of};
 ghost use Rattle.net_laws.specs.Answers.{EdgeAnswer, HookAnswer, JoinedAnswer, PinAnswer, ShareAnswer, SteinerAnswer};
 ghost use Rattle.net_laws.specs.States.{fresh, unseeded, with_allowance, with_edge, with_pin, with_point, with_seed};
-ghost use Rattle.net_laws.specs.Worlds.{cut, joining, wiring};
+ghost use Rattle.net_laws.specs.Spaces.{made_total, joining, wiring};
 ghost use Rattle.net_laws.specs.declared.fault.Fault.TheVariants.{NoTree, TooFewPins};
-ghost use Rattle.tree_laws.specs.Distances.{join_of, reach_of};
+ghost use Rattle.space.specs.Totals.{meet_or_start, capped_distance};
 ghost use Rattle.space.specs.declared.TheConstants.{LONGEST};
 ghost use Rattle.span.specs.Lengths.{lengths};
 ghost use Rattle.space.specs.Spots.{spot_of};
-ghost use Rattle.span_laws.specs.Spanning.{Spanning};
+ghost use Rattle.span_laws.specs.Spanning.{SpanningSeed};
 
 use joined::Joiner;
 use net_laws::{Fault, SpaceFault};
 use seed::Seed;
 use share::{ShareFault, share_best};
-use space::{Joining, LONGEST, Space, Spot};
+use space::{Joining, LONGEST, Space, Spot, capped_distance};
 use span::Spanner;
 use std::alloc::{AllocError, Global};
 use std::marker::Model;
 use straight::Builder;
-use tree::{Table, hook_best, reach};
+use tree::{Tree, hook_best};
 use walk::Allowance;
 
 /// The most pins that a net can have.
@@ -39,7 +39,7 @@ pub(crate) struct NetState {
     pub(crate) pins: usize,
     allowance: Option<Allowance>,
     seed: Seed,
-    table: Table,
+    table: Tree,
     stands: bool,
     ghost room: { PINS + POINTS ≤ vec_capacity spots },
     ghost first: { pins ≤ length spots.items },
@@ -53,23 +53,23 @@ impl Model for NetState {
 
     ghost Value = { State };
 
-    ghost use Rattle.net.specs.Held.{ratio_of, standing};
+    ghost use Rattle.net.specs.Held.{ratio_of, rows_standing};
 
     ghost view = { λ n. record {
       spots = n.spots.items;
       pins = n.pins;
       allowance = ratio_of n.allowance;
       edges = n.seed.edges;
-      tree = standing n.stands n.table;
+      tree = rows_standing n.stands n.table;
     } };
 }
 
 /// Whether each of the pins is at least 1 away from `spot`.
 fn apart<S: Space>(space: &S, pins: &[Spot], spot: Spot) -> bool
     ensures { IsTrue result ↔
-        ((k : ℕ) → k < length pins.now → 1 ≤ reach_of S.Space space.now (spot_of pins.now k) spot) }
+        ((k : ℕ) → k < length pins.now → 1 ≤ capped_distance S.Space space.now (spot_of pins.now k) spot) }
 {
-    pins.iter().all(|pin| reach(space, *pin, spot) != 0)
+    pins.iter().all(|pin| capped_distance(space, *pin, spot) != 0)
 }
 
 /// The refusal of a share move as one of the net.
@@ -89,7 +89,7 @@ impl NetState {
     {
         let spots = Vec::with_capacity(heap, PINS + POINTS)?;
         let seed = Seed::new(heap)?;
-        let table = Table::new(heap, Spot::default())?;
+        let table = Tree::new(heap, Spot::default())?;
         Ok(NetState {
             spots,
             pins: 0,
@@ -124,7 +124,7 @@ impl NetState {
 
     /// Adds a pin, where the space admits it and it is apart from the others.
     pub(crate) fn pin<S: Space>(&mut self, space: &S, spot: Spot) -> Result<usize, Fault>
-        ensures answer { PinAnswer (cut (wiring S.Space space.now)) self.old self.new spot result }
+        ensures answer { PinAnswer (made_total (wiring S.Space space.now)) self.old self.new spot result }
         ensures unchanged { is_err result ≡ true → self.new ≡ self.old }
     {
         if space.widest() > LONGEST {
@@ -165,7 +165,7 @@ impl NetState {
 
     /// Adds a Steiner point, where the space admits it.
     pub(crate) fn steiner<S: Space>(&mut self, space: &S, spot: Spot) -> Result<usize, Fault>
-        ensures answer { SteinerAnswer (cut (wiring S.Space space.now)) self.old self.new spot result }
+        ensures answer { SteinerAnswer (made_total (wiring S.Space space.now)) self.old self.new spot result }
         ensures unchanged { is_err result ≡ true → self.new ≡ self.old }
     {
         self.paired()?;
@@ -192,7 +192,7 @@ impl NetState {
 
     /// Adds an edge between two nodes that no path of edges joins, and answers its length.
     pub(crate) fn edge<S: Space>(&mut self, space: &S, a: usize, b: usize) -> Result<u64, Fault>
-        ensures answer { EdgeAnswer (cut (wiring S.Space space.now)) self.old self.new a b result }
+        ensures answer { EdgeAnswer (made_total (wiring S.Space space.now)) self.old self.new a b result }
         ensures unchanged { is_err result ≡ true → self.new ≡ self.old }
     {
         self.paired()?;
@@ -203,7 +203,7 @@ impl NetState {
         if self.seed.joined(a, b) {
             return Err(Fault::Joined);
         }
-        let length = reach(space, self.spots[a], self.spots[b]);
+        let length = capped_distance(space, self.spots[a], self.spots[b]);
         if length == 0 {
             return Err(Fault::NoLength);
         }
@@ -223,7 +223,7 @@ impl NetState {
     /// Grows the spanning seed of the pins in place of Steiner points, edges and tree, and answers its wire.
     pub(crate) fn span<S: Space>(&mut self, space: &S, spanner: &mut Spanner) -> u64
         requires { 2 ≤ self.old.pins }
-        ensures spans { Spanning self.old.pins (lengths S.Space space.now self.old.spots) self.new.edges }
+        ensures spans { SpanningSeed self.old.pins (lengths S.Space space.now self.old.spots) self.new.edges }
         ensures wire { result ≡ wire self.new.edges }
         ensures grown { self.new ≡ with_seed self.old self.new.edges }
     {
@@ -236,7 +236,7 @@ impl NetState {
     }
 
     /// The tree, where one stands.
-    pub(crate) fn tree(&self) -> Result<&Table, Fault>
+    pub(crate) fn tree(&self) -> Result<&Tree, Fault>
         ensures some { IfOk result (λ t. self.now.tree ≡ Some t.now.rows) }
         ensures none { IfErr result (λ e. (e ≡ NoTree) × (self.now.tree ≡ None)) }
     {
@@ -252,7 +252,7 @@ impl NetState {
         space: &S,
         builder: &mut Builder,
     ) -> Result<u64, Fault>
-        ensures { StraightBuilt (reach_of S.Space space.now) self.old builder.new.broken.items result self.new }
+        ensures { StraightBuilt (capped_distance S.Space space.now) self.old builder.new.broken.items result self.new }
     {
         self.paired()?;
         let Some(allowance) = self.allowance else {
@@ -277,7 +277,7 @@ impl NetState {
         members: &[usize],
     ) -> u64
         requires { JoinableIn self.old members.now }
-        ensures { JoinsIn (reach_of S.Space space.now) (join_of S.Space S.Joining.own space.now)
+        ensures { JoinsIn (capped_distance S.Space space.now) (meet_or_start S.Space S.Joining.own space.now)
             self.old members.now result self.new }
     {
         // The call is not refused here; `unwrap` would have that proved once more, beside the answer.
@@ -291,7 +291,7 @@ impl NetState {
         builder: &mut Builder,
         joiner: &mut Joiner,
     ) -> Result<u64, Fault>
-        ensures answer { JoinedAnswer (cut (joining S.Space S.Joining.own space.now)) self.old self.new result }
+        ensures answer { JoinedAnswer (made_total (joining S.Space S.Joining.own space.now)) self.old self.new result }
         ensures unchanged { is_err result ≡ true → self.new ≡ self.old }
     {
         self.straight(space, builder)?;
@@ -300,7 +300,7 @@ impl NetState {
 
     /// Makes the best hook move of the tree and answers what it saves.
     pub(crate) fn hook<S: Space>(&mut self, space: &S) -> Result<u64, Fault>
-        ensures answer { HookAnswer (cut (wiring S.Space space.now)) self.old self.new result }
+        ensures answer { HookAnswer (made_total (wiring S.Space space.now)) self.old self.new result }
         ensures unchanged { is_err result ≡ true → self.new ≡ self.old }
     {
         if !self.stands {
@@ -312,7 +312,7 @@ impl NetState {
 
     /// Makes the best share move of the tree and answers what it saves.
     pub(crate) fn share<S: Joining>(&mut self, space: &S) -> Result<u64, Fault>
-        ensures answer { ShareAnswer (cut (joining S.Space S.Joining.own space.now)) self.old self.new result }
+        ensures answer { ShareAnswer (made_total (joining S.Space S.Joining.own space.now)) self.old self.new result }
         ensures unchanged { is_err result ≡ true → self.new ≡ self.old }
     {
         if !self.stands {

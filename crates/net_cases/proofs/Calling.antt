@@ -5,16 +5,17 @@ use Rattle.forest.specs.Edges.{Joined, wire}
 use Rattle.forest.specs.Labels.{label_of}
 use Rattle.forest.specs.declared.Edge.{Edge}
 use Rattle.forest.proofs.Labelled.{joined_label}
-use Rattle.space.specs.Laws.{limit}
+use Rattle.space.specs.declared.TheConstants.{LONGEST}
 use Rattle.space.specs.declared.spot.Spot.{Spot}
 use Rattle.space.specs.Spots.{spot_of as spot_at}
-use Rattle.span_laws.specs.Spanning.{Spanning}
+use Rattle.span_laws.specs.Spanning.{SpanningSeed}
 use Rattle.span_laws.proofs.Checks.{every, every_at}
 use Rattle.span_laws.proofs.Steps.{spanning_only}
 use Rattle.tree_laws.specs.Trees.{wire_of}
 use Rattle.tree_laws.specs.declared.Row.{Row}
-use Rattle.net_laws.specs.Answers.{JoinAnswers, JoinedTree, Lawful, StraightTree, builds}
-use Rattle.net_laws.specs.Geometry.{World}
+use Rattle.net_laws.specs.Answers.{JoinAnswers, JoinedTree, StraightTree, builds}
+use Rattle.walk_laws.specs.Walk.{LawfulAllowance}
+use Rattle.net_laws.specs.Geometry.{Geometry}
 use Rattle.net_laws.specs.Faults.{number_of}
 use Rattle.net_laws.specs.States.{State, fresh, with_allowance, with_edge, with_pin, with_seed, with_tree}
 use Rattle.net_laws.specs.declared.call.Call.TheVariants.{Pin, Allow, Edge as EdgeOf, Span, Straight}
@@ -29,19 +30,19 @@ use Rattle.net_cases.specs.Calls.{Ending, Follows, Says, Step, allowing, answers
 past : {Q N X : Type 0} → Q → ((Q → ⊥) × N) ⊎ (Q × X) → X
 past {Q} {N} {X} q h = ⊎_elim (λ (k : (Q → ⊥) × N). absurd (k.0 q)) (λ (k : Q × X). k.1) h
 
-over : (w : ℕ) → leb w limit ≡ false → w ≤ limit → ⊥
-over w wide h = omega (arith, leb-false w limit wide)
+over : (w : ℕ) → leb w LONGEST ≡ false → w ≤ LONGEST → ⊥
+over w wide h = omega (arith, leb-false w LONGEST wide)
 
 abbrev pub lawful : (p q : ℕ) → Bool
 lawful p q = leb p 1000 && (leb 1 q && leb q 1000)
 
-is_lawful : (p q : ℕ) → lawful p q ≡ true → Lawful p q
+is_lawful : (p q : ℕ) → lawful p q ≡ true → LawfulAllowance p q
 is_lawful p q h =
     let h₁ = and_parts _ _ h in
     let h₂ = and_parts _ _ h₁.1 in
     (leb-true _ _ h₁.0, leb-true _ _ h₂.0, leb-true _ _ h₂.1)
 
-module _ (W : World) (n : State) where
+module _ (W : Geometry) (n : State) where
   -- a call that answers k and leaves the net n'
   told : (n' : State) (k : ℕ) (c : JoinCall) (rest : List Step) (end : Ending) → JoinAnswers W n n' c (Ok k) → ((r : Result ℕ Fault) (m : State) → JoinAnswers W n m c r → (r ≡ Ok k) × (m ≡ n')) → Follows W n' rest end → Follows W n (step c (answers k) ∷ rest) end
   told n' k c rest end can is f = (
@@ -55,10 +56,10 @@ module _ (W : World) (n : State) where
 
   -- the pins fit
   abbrev fits_pin : Spot → Bool
-  fits_pin z = leb W.width limit && (W.admitted z && (ltb n.pins 256 && every n.pins (λ k. leb 1 (W.between (spot_at n.spots k) z))))
+  fits_pin z = leb W.width LONGEST && (W.admitted z && (ltb n.pins 256 && every n.pins (λ k. leb 1 (W.between (spot_at n.spots k) z))))
 
   record FitsPin (z : Spot) : Type 0 where
-    narrow : W.width ≤ limit
+    narrow : W.width ≤ LONGEST
     admits : W.admitted z ≡ true
     few : n.pins < 256
     far : (k : ℕ) → k < n.pins → 1 ≤ W.between (spot_at n.spots k) z
@@ -165,7 +166,7 @@ module _ (W : World) (n : State) where
         told (with_tree n rows) (wire_of rows) JoinedCall rest end (built_can T can, tt) (λ r m a. built T only r m a.0)
 
   -- the spanning seed
-  pub span_told : (E : List Edge) (rest : List Step) (end : Ending) → leb 2 n.pins ≡ true → Spanning n.pins (λ u v. W.between (spot_at n.spots u) (spot_at n.spots v)) E → Follows W (with_seed n E) rest end → Follows W n (step (Wire Span) (answers (wire E)) ∷ rest) end
+  pub span_told : (E : List Edge) (rest : List Step) (end : Ending) → leb 2 n.pins ≡ true → SpanningSeed n.pins (λ u v. W.between (spot_at n.spots u) (spot_at n.spots v)) E → Follows W (with_seed n E) rest end → Follows W n (step (Wire Span) (answers (wire E)) ∷ rest) end
   span_told E rest end two spans f = told (with_seed n E) (wire E) (Wire Span) rest end ((leb-true _ _ two, (E, spans, refl, refl)), tt) spanned f
     where
       spanned : (r : Result ℕ Fault) (m : State) → JoinAnswers W n m (Wire Span) r → (r ≡ Ok (wire E)) × (m ≡ with_seed n E)
@@ -176,16 +177,16 @@ module _ (W : World) (n : State) where
       spanned (Err e) m a = absurd (past (leb-true _ _ two) a.0)
 
   -- a pin in a space that is too wide
-  pub wide_told : (z : Spot) (rest : List Step) (end : Ending) → leb W.width limit ≡ false → Follows W n rest end → Follows W n (step (Wire (Pin z)) (refused 1) ∷ rest) end
+  pub wide_told : (z : Spot) (rest : List Step) (end : Ending) → leb W.width LONGEST ≡ false → Follows W n rest end → Follows W n (step (Wire (Pin z)) (refused 1) ∷ rest) end
   wide_told z rest end wide f = (record { answer = Err (Space TooWide); after = n; stands = (inl (over W.width wide, refl), refl) }, only)
     where
       only : (r : Result ℕ Fault) (m : State) → JoinAnswers W n m (Wire (Pin z)) r → Says r (refused 1) × Follows W m rest end
       only (Ok k) m a = absurd (over W.width wide a.0.0)
       only (Err e) m a =
           let F : State → Type 0 = λ x. Follows W x rest end in
-          (⊎_elim (λ (k : (W.width ≤ limit → ⊥) × (number_of e ≡ 1)). k.1) (λ (k : (W.width ≤ limit) × _). absurd (over W.width wide k.0)) a.0, subst F (sym a.1) f)
+          (⊎_elim (λ (k : (W.width ≤ LONGEST → ⊥) × (number_of e ≡ 1)). k.1) (λ (k : (W.width ≤ LONGEST) × _). absurd (over W.width wide k.0)) a.0, subst F (sym a.1) f)
 
-module _ (W : World) where
+module _ (W : Geometry) where
   -- many pins, many edges
 
   abbrev fit_pins : State → List Spot → Bool

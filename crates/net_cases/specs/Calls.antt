@@ -4,7 +4,7 @@ use Rattle.forest.specs.declared.Edge.{Edge}
 use Rattle.space.specs.declared.spot.Spot.{Spot}
 use Rattle.tree_laws.specs.declared.Row.{Row}
 use Rattle.net_laws.specs.Answers.{JoinAnswers}
-use Rattle.net_laws.specs.Geometry.{World}
+use Rattle.net_laws.specs.Geometry.{Geometry}
 use Rattle.net_laws.specs.Faults.{number_of}
 use Rattle.net_laws.specs.States.{State}
 use Rattle.net_laws.specs.declared.call.Call.TheVariants.{Pin, Allow, Edge as EdgeOf}
@@ -39,14 +39,14 @@ Ends n (seed E) = (n.edges ≡ E) × (n.tree ≡ None)
 Ends n (tree rows) = n.tree ≡ Some rows
 
 -- The contract of the call leaves the net n an answer.
-pub record Answered (W : World) (n : State) (c : JoinCall) : Type 0 where
+pub record Answered (W : Geometry) (n : State) (c : JoinCall) : Type 0 where
   pub answer : Result ℕ Fault
   pub after : State
   pub stands : JoinAnswers W n after c answer
 
 -- The net n is asked by these calls in this order: to the first it has an answer, and whatever it answers by the contract of the call is the
 -- reply given, and so on from the net that it becomes.
-abbrev pub Follows : World → State → List Step → Ending → Type 0
+abbrev pub Follows : Geometry → State → List Step → Ending → Type 0
 Follows W n [] end = Ends n end
 Follows W n (s ∷ steps) end =
     Answered W n s.call × ((r : Result ℕ Fault) (m : State) → JoinAnswers W n m s.call r → Says r s.reply × Follows W m steps end)

@@ -5,19 +5,19 @@ use Rattle.space.specs.declared.spot.Spot.{Spot}
 use Rattle.built_spaces.specs.contracts.plane.PlaneJoining.TheImpl as planeJoining
 use Rattle.built_spaces.specs.contracts.plane.PlaneSpace.TheImpl as planeSpace
 use Rattle.tree_laws.specs.declared.Row.{Row}
-use Rattle.net_laws.specs.Geometry.{World}
+use Rattle.net_laws.specs.Geometry.{Geometry}
 use Rattle.net_laws.specs.States.{fresh}
-use Rattle.net_laws.specs.Worlds.{joining, wiring}
+use Rattle.net_laws.specs.Spaces.{joining, wiring}
 use Rattle.net_laws.specs.declared.call.Call.TheVariants.{Pin, Span, Straight}
 use Rattle.net_laws.specs.declared.call.JoinCall.TheVariants.{Wire, Joined}
 use Rattle.cases.specs.Table.{Fact as Below, Holds as HoldsBelow, table as below, at, corner, fork, lift_ghosts, origin, over_plane, plane, square, square_seed}
 use Rattle.net_cases.specs.Calls.{Ending, Follows, Step, answers, pins_from, refused, seed, seeded, step, tree}
 
 -- What plane, and a lift of that price over plane, mean to a net.
-abbrev pub on_plane : World
+abbrev pub on_plane : Geometry
 on_plane = joining planeSpace.ghosts planeJoining.ghosts plane
 
-abbrev pub on_lift : (price : ℕ) → World
+abbrev pub on_lift : (price : ℕ) → Geometry
 on_lift price = wiring lift_ghosts (over_plane price)
 
 -- A row of the table.
@@ -25,7 +25,7 @@ pub data Fact : Type 0 where
   -- a space, the spanning seed or the walk answers so
   layer_answers : (fact : Below) → Fact
   -- a new net in that space, asked by these calls in this order, answers so to each, and this is left
-  net_answers : (W : World) (steps : List Step) (left : Ending) → Fact
+  net_answers : (W : Geometry) (steps : List Step) (left : Ending) → Fact
 
 abbrev pub Holds : Fact → Type 0
 Holds (layer_answers fact) = HoldsBelow fact

@@ -12,15 +12,15 @@ use Rattle.span_laws.proofs.Steps.{spanning_only}
 use Rattle.space.specs.Spots.{spot_of as spot_at}
 use Rattle.order.specs.Bests.{BestOf}
 use Rattle.tree_laws.specs.Hooks.{hook_order}
-use Rattle.tree_laws.specs.Trees.{hang, spot_of}
+use Rattle.tree_laws.specs.Trees.{hang, row_spot}
 use Rattle.tree_laws.specs.declared.Row.{Row}
 use Rattle.walk_laws.specs.Walk.{start, walk}
-use Rattle.net_laws.specs.Answers.{Hooks, JoinAnswers, JoinedTree, Shares, StraightTree, breakpoints, rules_of}
-use Rattle.net_laws.specs.Geometry.{World}
+use Rattle.net_laws.specs.Answers.{Hooks, JoinAnswers, JoinedTree, Shares, StraightTree, breakpoints, net_rules}
+use Rattle.net_laws.specs.Geometry.{Geometry}
 use Rattle.net_laws.specs.Logs.{Log, Runs}
 use Rattle.net_laws.specs.Logs.Runs.{next, still}
 use Rattle.net_laws.specs.States.{State, with_seed, with_tree}
-use Rattle.net_laws.specs.Worlds.{Keeps, Tied}
+use Rattle.net_laws.specs.Spaces.{Keeps, Tied}
 use Rattle.net_laws.specs.declared.call.Call.TheVariants.{Pin, Allow, Steiner, Edge as EdgeOf, Unseed, Span, Straight, Hook as HookCall}
 use Rattle.net_laws.specs.declared.call.JoinCall.{JoinCall}
 use Rattle.net_laws.specs.declared.call.JoinCall.TheVariants.{Wire, Joined as JoinedCall, Share as ShareCall}
@@ -51,7 +51,7 @@ module _ (d : Spot → Spot → ℕ) (m : Spot → Spot → Spot → Spot) where
       let Q : ℕ → Type 0 = λ z. Joins d m (meet_row d m rows a z) (meet_group d m group a z (length rows)) other in
       joins_one rest (subst Q (sym e.1) (subst P (sym e.0) last))
 
-module _ (W : World) (laws : Keeps W) where
+module _ (W : Geometry) (laws : Keeps W) where
   abbrev T : State → Type 0
   T n = Tied W.admitted W.width W.between n
 
@@ -69,7 +69,7 @@ module _ (W : World) (laws : Keeps W) where
 
     joined_rows : (p q : ℕ) (rows other : List Row) → JoinedTree W.between W.meeting n.spots n.pins p q n.edges rows → JoinedTree W.between W.meeting n.spots n.pins p q n.edges other → rows ≡ other
     joined_rows p q rows other j i =
-        let R = rules_of W.between n.spots n.pins p q in
+        let R = net_rules W.between n.spots n.pins p q in
         let N = length n.spots in
         let F = same_forest W laws n m t i.straight.planted j.straight.planted in
         let G : Forest → Type 0 = λ x. Joins W.between W.meeting i.unjoined (breakpoints (walk R 0 x start) N) other in
@@ -94,7 +94,7 @@ module _ (W : World) (laws : Keeps W) where
         let h = subst H same b.3 in
         let i = e.3 in
         let x : h.move ≡ i.move = best_one hook_order _ h.move i.move h.best i.best in
-        b.4 ∙ ap (with_tree n) (h.hung ∙ ap (λ z. hang e.0 z.v z.u (d (spot_of e.0 z.u) (spot_of e.0 z.v))) x ∙ sym i.hung) ∙ sym e.4
+        b.4 ∙ ap (with_tree n) (h.hung ∙ ap (λ z. hang e.0 z.v z.u (d (row_spot e.0 z.u) (row_spot e.0 z.v))) x ∙ sym i.hung) ∙ sym e.4
 
     share_one : (w : ℕ) → JoinAnswers W n m ShareCall (Ok w) → JoinAnswers W n k ShareCall (Ok w) → m ≡ k
     share_one w a c =

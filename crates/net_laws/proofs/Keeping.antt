@@ -7,20 +7,20 @@ use Rattle.forest.proofs.Accepted.{sound_none}
 use Rattle.order.proofs.Finding.{among_none}
 use Rattle.space.specs.declared.spot.Spot.{Spot}
 use Rattle.space.specs.Spots.{origin, spot_of as spot_at}
-use Rattle.span_laws.specs.Spanning.{Spanning}
+use Rattle.span_laws.specs.Spanning.{SpanningSeed}
 use Rattle.span_laws.proofs.Steps.{spanning_agrees, spanning_only}
-use Rattle.tree_laws.specs.Trees.{Hung, length_of, path_length, row_of, spot_of, up, wire_of}
+use Rattle.tree_laws.specs.Trees.{OnePath, row_length, path_length, row_of, row_spot, up, wire_of}
 use Rattle.tree_laws.specs.declared.Row.{Row}
 use Rattle.tree_laws.proofs.Ways.{hung}
 use Rattle.net_laws.specs.Answers.{JoinAnswers}
-use Rattle.net_laws.specs.Geometry.{World}
-use Rattle.net_laws.specs.Guarantee.{Guarantee, Laid, NoPathGrows, OnePathWithinAllowance, Read, RunsKeep, TreeStands, WireWithinBound}
-use Rattle.net_laws.specs.Logs.{Effect, Event, Log, Runs, SeedAfter, SeedOf, allowance_after, allowance_of, effect_of, keeps, keeps_tree, nodes_of, pins_after, pins_of, points_after, points_of, saving_after, savings_of, standing, stands_after}
+use Rattle.net_laws.specs.Geometry.{Geometry}
+use Rattle.net_laws.specs.Guarantee.{Guarantee, LiesInSpace, NoPathGrows, OnePathWithinAllowance, RowsRead, RunsKeep, TreeStands, WireWithinBound}
+use Rattle.net_laws.specs.Logs.{Effect, Event, Log, Runs, SeedAfter, SeedOf, allowance_after, allowance_of, effect_of, keeps, keeps_tree, nodes_of, pins_after, pins_of, points_after, points_of, saving_after, savings_of, tree_stands, stands_after}
 use Rattle.net_laws.specs.Logs.Effect.{nothing, adds_pin, allows, adds_point, adds_edge, drops_seed, spans, builds, saves}
 use Rattle.net_laws.specs.Logs.Runs.{still, next}
 use Rattle.net_laws.specs.Readings.{RowAnswer}
 use Rattle.net_laws.specs.States.{State, fresh, unseeded, with_allowance, with_edge, with_pin, with_point, with_seed, with_tree}
-use Rattle.net_laws.specs.Worlds.{Keeps, Placed, Tied}
+use Rattle.net_laws.specs.Spaces.{Keeps, Placed, Tied}
 use Rattle.net_laws.specs.declared.call.Call.TheVariants.{Pin, Allow, Steiner, Edge as EdgeOf, Unseed, Span, Straight as StraightCall, Hook}
 use Rattle.net_laws.specs.declared.call.JoinCall.{JoinCall}
 use Rattle.net_laws.specs.declared.call.JoinCall.TheVariants.{Wire, Joined as JoinedCall, Share}
@@ -35,7 +35,7 @@ never e = let z : ◌≡◌ {A = ℕ} 0 1 = cc in omega arith
 
 -- ---- what the call row answers
 
-pub reads : (n : State) (rows : List Row) → n.tree ≡ Some rows → Read n rows
+pub reads : (n : State) (rows : List Row) → n.tree ≡ Some rows → RowsRead n rows
 reads n rows e =
     record {
       row = told;
@@ -69,7 +69,7 @@ module _ (d : Spot → Spot → ℕ) where
   seed_only [] E D x y = x ∙ sym y
   seed_only (e ∷ log) E D x y = seed_after_only (pins_of log) (effect_of e) (SeedOf d log) (seed_only log) E D x y
 
-module _ (W : World) (laws : Keeps W) where
+module _ (W : Geometry) (laws : Keeps W) where
   abbrev T : State → Type 0
   T n = Tied W.admitted W.width W.between n
 
@@ -88,23 +88,23 @@ module _ (W : World) (laws : Keeps W) where
   -- the promises over what the log says, whatever the log
   abbrev LaidOver : List Spot → List Row → Type 0
   LaidOver nodes rows =
-      ((k : ℕ) → k < length nodes → (k < length rows) × (spot_of rows k ≡ spot_at nodes k))
-      × ((up rows 0 ≡ 0) × (length_of rows 0 ≡ 0))
+      ((k : ℕ) → k < length nodes → (k < length rows) × (row_spot rows k ≡ spot_at nodes k))
+      × ((up rows 0 ≡ 0) × (row_length rows 0 ≡ 0))
       × ((k : ℕ) → k < length rows → up rows k < length rows)
-      × ((k : ℕ) → k < length rows → (k ≡ 0 → ⊥) → length_of rows k ≡ W.between (spot_of rows (up rows k)) (spot_of rows k))
+      × ((k : ℕ) → k < length rows → (k ≡ 0 → ⊥) → row_length rows k ≡ W.between (row_spot rows (up rows k)) (row_spot rows k))
 
   abbrev Within : List Spot → (p q : ℕ) → List Row → Type 0
   Within pins p q rows =
-      (k : ℕ) → k < length pins → Hung rows k × (q * path_length rows k ≤ (p + q) * W.between (spot_at pins 0) (spot_at pins k))
+      (k : ℕ) → k < length pins → OnePath rows k × (q * path_length rows k ≤ (p + q) * W.between (spot_at pins 0) (spot_at pins k))
 
   abbrev Bounded : (p q : ℕ) → (List Edge → Type 0) → List Row → Type 0
   Bounded p q Seed rows = (E : List Edge) → Seed E → p * wire_of rows ≤ (p + 2 * q) * wire E
 
   abbrev Shorter : List Spot → (start rows : List Row) → Type 0
-  Shorter pins start rows = (k : ℕ) → k < length pins → Hung start k × (path_length rows k ≤ path_length start k)
+  Shorter pins start rows = (k : ℕ) → k < length pins → OnePath start k × (path_length rows k ≤ path_length start k)
 
   module _ (n : State) (log : Log) (g : Guarantee W log n) (t : Tied W.admitted W.width W.between n) where
-    relaid : (ev : Event) {rows : List Row} → LaidOver (nodes_of (ev ∷ log)) rows → Laid W (ev ∷ log) rows
+    relaid : (ev : Event) {rows : List Row} → LaidOver (nodes_of (ev ∷ log)) rows → LiesInSpace W (ev ∷ log) rows
     relaid ev l = record { nodes = l.0; driver = l.1; parents = l.2; lengths = l.3 }
 
     front_is : take n.pins n.spots ≡ pins_of log
@@ -215,11 +215,11 @@ module _ (W : World) (laws : Keeps W) where
       tree = λ e. absurd (never e);
     }
 
-    kept_span : (w : ℕ) (E : List Edge) → Spanning n.pins (λ u v. W.between (spot_at n.spots u) (spot_at n.spots v)) E → Guarantee W (record { call = Wire Span; answer = Ok w } ∷ log) (with_seed n E)
+    kept_span : (w : ℕ) (E : List Edge) → SpanningSeed n.pins (λ u v. W.between (spot_at n.spots u) (spot_at n.spots v)) E → Guarantee W (record { call = Wire Span; answer = Ok w } ∷ log) (with_seed n E)
     kept_span w E s =
         let here = λ (u v : ℕ). W.between (spot_at n.spots u) (spot_at n.spots v) in
         let there = λ (u v : ℕ). W.between (spot_at (pins_of log) u) (spot_at (pins_of log) v) in
-        let P : ℕ → Type 0 = λ k. Spanning k there E in
+        let P : ℕ → Type 0 = λ k. SpanningSeed k there E in
         let agrees : (u v : ℕ) → u < n.pins → v < n.pins → (u ≡ v → ⊥) → here u v ≡ there u v = λ u v h i ne.
         ap (λ z. W.between z (spot_at n.spots v)) (pin_is u h) ∙ ap (W.between (spot_at (pins_of log) u)) (pin_is v i) in
         record {
@@ -287,7 +287,7 @@ module _ (W : World) (laws : Keeps W) where
             pins = by (λ x. n.pins ≡ length (pins_after x (pins_of log))) g.pins;
             allowance = by (λ x. n.allowance ≡ allowance_after x (allowance_of log)) g.allowance;
             seed = by (λ x. SeedAfter W.between (pins_of log) x (SeedOf W.between log) n.edges) g.seed;
-            stands = by (λ x. true ≡ stands_after x (standing log)) (sym (ap is_some e) ∙ g.stands);
+            stands = by (λ x. true ≡ stands_after x (tree_stands log)) (sym (ap is_some e) ∙ g.stands);
             tree = λ s. record {
               since = ev ∷ b.since;
               before = b.before;
@@ -332,7 +332,7 @@ module _ (W : World) (laws : Keeps W) where
             pins = by (λ x. n.pins ≡ length (pins_after x (pins_of log))) g.pins;
             allowance = by (λ x. n.allowance ≡ allowance_after x (allowance_of log)) g.allowance;
             seed = by (λ x. SeedAfter W.between (pins_of log) x (SeedOf W.between log) n.edges) g.seed;
-            stands = by (λ x. true ≡ stands_after x (standing log)) refl;
+            stands = by (λ x. true ≡ stands_after x (tree_stands log)) refl;
             tree = λ s. record {
               since = [];
               before = log;

@@ -6,40 +6,41 @@ use Rattle.build_laws.proofs.Joined.{first_child, second_child, step_grouped}
 use Rattle.tree_laws.specs.Shares.{ShareMove, shared_by}
 use Rattle.tree_laws.specs.declared.share.Share.{Share}
 use Rattle.tree_laws.proofs.ShareMoves.{measured_again, paths_stay, spot_kept, wire_falls}
-use Rattle.space.specs.Laws.{Meets, Metric, limit}
+use Rattle.space.specs.Laws.{Meets, Metric}
+use Rattle.space.specs.declared.TheConstants.{LONGEST}
 use Rattle.space.specs.declared.Joining.{Ghosts as JoinGhosts}
 use Rattle.space.specs.declared.Space.{Ghosts}
 use Rattle.tree_laws.specs.Hooks.{HookMove}
 use Rattle.tree_laws.specs.Distances.{Measured}
 use Rattle.tree_laws.specs.declared.hook.Hook.{Hook}
 use Rattle.tree_laws.proofs.HookMoves.{hang_measured}
-use Rattle.tree_laws.specs.Trees.{Tree, hang, path_length, spot_of, wire_of}
+use Rattle.tree_laws.specs.Trees.{RowTree, hang, path_length, row_spot, wire_of}
 use Rattle.tree_laws.specs.declared.Row.{Row}
 use Rattle.tree_laws.proofs.Hanging.{hang_length, hang_never_grows, hang_spot, hang_tree, hang_wire}
 use Rattle.tree_laws.proofs.Sharing.{between_length, between_tree}
-use Rattle.net_laws.specs.Geometry.{World}
+use Rattle.net_laws.specs.Geometry.{Geometry}
 use Rattle.net_laws.specs.States.{State}
-use Rattle.net_laws.specs.Worlds.{Placed}
+use Rattle.net_laws.specs.Spaces.{Placed}
 
 -- ---- a world as a space
 
-abbrev pub ghosts : World → Ghosts (Unit {0})
+abbrev pub ghosts : Geometry → Ghosts (Unit {0})
 ghosts W = record { admitted = λ _. W.admitted; width = λ _. W.width; between = λ _. W.between }
 
-abbrev pub join_ghosts : World → JoinGhosts (Unit {0})
+abbrev pub join_ghosts : Geometry → JoinGhosts (Unit {0})
 join_ghosts W = record { meeting = λ _. W.meeting }
 
 -- Rows that lie in the space, and the spots of the first of them.
-pub record Lies (W : World) (rows after : List Row) : Type 0 where
-  pub tree : Tree after
+pub record Lies (W : Geometry) (rows after : List Row) : Type 0 where
+  pub tree : RowTree after
   pub more : length rows ≤ length after
-  pub spots : (k : ℕ) → k < length rows → spot_of after k ≡ spot_of rows k
+  pub spots : (k : ℕ) → k < length rows → row_spot after k ≡ row_spot rows k
   pub measured : Measured (ghosts W) tt after
 
-pub placed_measured : (W : World) (n : State) (rows : List Row) → W.width ≤ limit → Placed W.admitted W.between n rows → Measured (ghosts W) tt rows
+pub placed_measured : (W : Geometry) (n : State) (rows : List Row) → W.width ≤ LONGEST → Placed W.admitted W.between n rows → Measured (ghosts W) tt rows
 placed_measured W n rows h p = record { narrow = h; admitted = p.admitted; lengths = p.lengths }
 
-pub lies_placed : (W : World) (n : State) (rows after : List Row) → Placed W.admitted W.between n rows → Lies W rows after → Placed W.admitted W.between n after
+pub lies_placed : (W : Geometry) (n : State) (rows after : List Row) → Placed W.admitted W.between n rows → Lies W rows after → Placed W.admitted W.between n after
 lies_placed W n rows after p l = record {
   two = p.two;
   tree = l.tree;
@@ -49,17 +50,17 @@ lies_placed W n rows after p l = record {
   lengths = l.measured.lengths;
 }
 
-module _ (W : World) (metric : W.width ≤ limit → Metric W.admitted W.width W.between) (meets : W.width ≤ limit → Meets W.admitted W.between W.meeting) where
+module _ (W : Geometry) (metric : W.width ≤ LONGEST → Metric W.admitted W.width W.between) (meets : W.width ≤ LONGEST → Meets W.admitted W.between W.meeting) where
   -- ---- a share move
 
-  module _ (rows : List Row) (t : Tree rows) (p : Measured (ghosts W) tt rows) (m : Share) (q : ShareMove rows W.between W.meeting m) where
+  module _ (rows : List Row) (t : RowTree rows) (p : Measured (ghosts W) tt rows) (m : Share) (q : ShareMove rows W.between W.meeting m) where
     apart : m.b ≡ m.a → ⊥
     apart e = omega (arith, q.order, e)
 
     pub share_lies : Lies W rows (shared_by rows W.between W.meeting m)
     share_lies = record {
       tree = between_tree t m.v q.row _ _ m.a _ m.b _ q.first q.second apart;
-      more = omega (arith, between_length t m.v q.row (W.meeting (spot_of rows m.v) (spot_of rows m.a) (spot_of rows m.b)) (W.between (spot_of rows m.v) (W.meeting (spot_of rows m.v) (spot_of rows m.a) (spot_of rows m.b))) m.a (W.between (W.meeting (spot_of rows m.v) (spot_of rows m.a) (spot_of rows m.b)) (spot_of rows m.a)) m.b (W.between (W.meeting (spot_of rows m.v) (spot_of rows m.a) (spot_of rows m.b)) (spot_of rows m.b)) q.first q.second apart);
+      more = omega (arith, between_length t m.v q.row (W.meeting (row_spot rows m.v) (row_spot rows m.a) (row_spot rows m.b)) (W.between (row_spot rows m.v) (W.meeting (row_spot rows m.v) (row_spot rows m.a) (row_spot rows m.b))) m.a (W.between (W.meeting (row_spot rows m.v) (row_spot rows m.a) (row_spot rows m.b)) (row_spot rows m.a)) m.b (W.between (W.meeting (row_spot rows m.v) (row_spot rows m.a) (row_spot rows m.b)) (row_spot rows m.b)) q.first q.second apart);
       spots = spot_kept (ghosts W) (join_ghosts W) tt rows metric meets p t m q;
       measured = measured_again (ghosts W) (join_ghosts W) tt rows metric meets p t m q;
     }
@@ -72,9 +73,9 @@ module _ (W : World) (metric : W.width ≤ limit → Metric W.admitted W.width W
 
   -- ---- a hook move
 
-  module _ (rows : List Row) (t : Tree rows) (p : Measured (ghosts W) tt rows) (m : Hook) (q : HookMove rows (λ u v. W.between (spot_of rows u) (spot_of rows v)) m) where
+  module _ (rows : List Row) (t : RowTree rows) (p : Measured (ghosts W) tt rows) (m : Hook) (q : HookMove rows (λ u v. W.between (row_spot rows u) (row_spot rows v)) m) where
     abbrev far : ℕ
-    far = W.between (spot_of rows m.u) (spot_of rows m.v)
+    far = W.between (row_spot rows m.u) (row_spot rows m.v)
 
     pub hook_lies : Lies W rows (hang rows m.v m.u far)
     hook_lies = record {
@@ -92,7 +93,7 @@ module _ (W : World) (metric : W.width ≤ limit → Metric W.admitted W.width W
 
   -- ---- joining
 
-  pub joins_lie : {rows after : List Row} {group : List ℕ} → W.width ≤ limit → Tree rows → Measured (ghosts W) tt rows → Grouped W.between W.meeting W.admitted rows group → Joins W.between W.meeting rows group after → Lies W rows after
+  pub joins_lie : {rows after : List Row} {group : List ℕ} → W.width ≤ LONGEST → RowTree rows → Measured (ghosts W) tt rows → Grouped W.between W.meeting W.admitted rows group → Joins W.between W.meeting rows group after → Lies W rows after
   joins_lie h t p g (done e) = record { tree = t; more = omega arith; spots = λ k i. refl; measured = p }
   joins_lie {rows} {after} {group} h t p g (join a b f pos rest) =
       let laws = meets h in

@@ -1,6 +1,6 @@
 -- Seeds within the allowance are built edge for edge, and a joined tree has no more wire than the straight one. Assumes nothing.
 use Rattle.std.proofs.Common.{◌≡◌, ℕ, zero, suc, ◌+◌, ◌*◌, ◌<◌, ◌≤◌, true, false, is_ok, List, [], ◌++◌, length, Some, Ok, Err, Result, sym, refl, ap, ◌∙◌, subst, mul-le-mul_left, arith}
-use Rattle.build_laws.specs.Joining.{Grouped, Joins, Kept}
+use Rattle.build_laws.specs.Joining.{Grouped, Joins, JoinedKeeps}
 use Rattle.build_laws.specs.Joining.Joins.{done, join}
 use Rattle.build_laws.specs.Straight.{straight}
 use Rattle.build_laws.proofs.Building.{straight_length}
@@ -9,26 +9,26 @@ use Rattle.forest.specs.Growth.{Planted}
 use Rattle.forest.specs.Rooted.{Forest}
 use Rattle.order.specs.Firsts.{Among}
 use Rattle.order.proofs.Finding.{among_none}
-use Rattle.space.specs.Laws.{limit}
+use Rattle.space.specs.declared.TheConstants.{LONGEST}
 use Rattle.space.specs.declared.spot.Spot.{Spot}
 use Rattle.space.specs.Spots.{spot_of as spot_at}
-use Rattle.tree_laws.specs.Trees.{length_of, path_length, up, wire_of}
+use Rattle.tree_laws.specs.Trees.{row_length, path_length, up, wire_of}
 use Rattle.tree_laws.proofs.Ways.{hung}
 use Rattle.tree_laws.specs.declared.Row.{Row}
 use Rattle.walk_laws.specs.Promise.{Branch, Spares}
-use Rattle.walk_laws.specs.Walk.{Table, start, walk}
+use Rattle.walk_laws.specs.Walk.{Marks, start, walk}
 use Rattle.walk_laws.proofs.Seeing.{planted_seen}
-use Rattle.net_laws.specs.Answers.{JoinedAnswer, JoinedTree, Stands, StraightAnswer, StraightTree, breakpoints, broken_if, marks_of, rules_of}
-use Rattle.net_laws.specs.Geometry.{World}
+use Rattle.net_laws.specs.Answers.{JoinedAnswer, JoinedTree, Stands, StraightAnswer, StraightTree, breakpoints, broken_if, marks_of, net_rules}
+use Rattle.net_laws.specs.Geometry.{Geometry}
 use Rattle.net_laws.specs.Builds.{Bounds, EdgeForEdge, NoMoreThanStraight, WithinBounds}
 use Rattle.net_laws.specs.States.{State}
 use Rattle.net_laws.specs.declared.fault.Fault.{Fault}
-use Rattle.net_laws.specs.Worlds.{Keeps, Tied}
+use Rattle.net_laws.specs.Spaces.{Keeps, Tied}
 use Rattle.net_laws.proofs.Straights.{among_breakpoints, branch_long, direct_is, kept, straight_allowed, straight_grouped, walked}
 use Rattle.net_laws.proofs.Tying.{placed_straight, same_some}
 
 -- without breakpoints there is nothing to join
-no_breakpoints : (S : Table) (n : ℕ) → ((v : ℕ) → v < n → (S v).broken ≡ false) → breakpoints S n ≡ []
+no_breakpoints : (S : Marks) (n : ℕ) → ((v : ℕ) → v < n → (S v).broken ≡ false) → breakpoints S n ≡ []
 no_breakpoints S zero f = refl
 no_breakpoints S (suc n) f =
     ap (λ xs. xs ++ broken_if (S n).broken n) (no_breakpoints S n (λ v h. f v (omega arith))) ∙ ap (λ b. broken_if b n) (f n (omega arith))
@@ -37,7 +37,7 @@ joins_none : (d : Spot → Spot → ℕ) (m : Spot → Spot → Spot → Spot) {
 joins_none d m e (done h) = refl
 joins_none d m e (join a b f h rest) = absurd (among_none (subst (λ (xs : List ℕ). Among a xs) e f.pair.first))
 
-module _ (W : World) (laws : Keeps W) (n m : State) (t : Tied W.admitted W.width W.between n) where
+module _ (W : Geometry) (laws : Keeps W) (n m : State) (t : Tied W.admitted W.width W.between n) where
   -- a seed is seen from the driver in one way
   pub same_forest : (F P : Planted (length n.spots) n.edges) → F.forest ≡ P.forest
   same_forest F P = (planted_seen (length n.spots) n.edges t.edges P).only F.forest F.grows
@@ -45,33 +45,33 @@ module _ (W : World) (laws : Keeps W) (n m : State) (t : Tied W.admitted W.width
   pub straight_only : (p q : ℕ) (rows before : List Row) → StraightTree W.between n.spots n.pins p q n.edges rows → StraightTree W.between n.spots n.pins p q n.edges before → rows ≡ before
   straight_only p q rows before a b =
       a.built
-      ∙ ap (λ (F : Forest). straight (rules_of W.between n.spots n.pins p q) (walk (rules_of W.between n.spots n.pins p q) 0 F start) (spot_at n.spots) (length n.spots)) (same_forest a.planted b.planted)
+      ∙ ap (λ (F : Forest). straight (net_rules W.between n.spots n.pins p q) (walk (net_rules W.between n.spots n.pins p q) 0 F start) (spot_at n.spots) (length n.spots)) (same_forest a.planted b.planted)
       ∙ sym b.built
 
   module _ (two : 2 ≤ n.pins) (p q : ℕ) (al : n.allowance ≡ Some (p, q)) where
-    spared_rows : (rows : List Row) → StraightTree W.between n.spots n.pins p q n.edges rows → (F : Planted (length n.spots) n.edges) → Spares (rules_of W.between n.spots n.pins p q) F.forest →
-        (length rows ≡ length n.spots) × ((u w l : ℕ) → Branch 0 F.forest u w l → (up rows w ≡ u) × (length_of rows w ≡ l))
+    spared_rows : (rows : List Row) → StraightTree W.between n.spots n.pins p q n.edges rows → (F : Planted (length n.spots) n.edges) → Spares (net_rules W.between n.spots n.pins p q) F.forest →
+        (length rows ≡ length n.spots) × ((u w l : ℕ) → Branch 0 F.forest u w l → (up rows w ≡ u) × (row_length rows w ≡ l))
     spared_rows rows s F h =
         let hq = (t.allowed p q al).1 in
-        let R = rules_of W.between n.spots n.pins p q in
+        let R = net_rules W.between n.spots n.pins p q in
         let e = straight_only p q rows (straight R (marks_of W.between n.spots n.pins p q n.edges F) (spot_at n.spots) (length n.spots)) s (record { planted = F; built = refl }) in
-        let Q : List Row → Type 0 = λ xs. (u w l : ℕ) → Branch 0 F.forest u w l → (up xs w ≡ u) × (length_of xs w ≡ l) in (
+        let Q : List Row → Type 0 = λ xs. (u w l : ℕ) → Branch 0 F.forest u w l → (up xs w ≡ u) × (row_length xs w ≡ l) in (
           ap length e ∙ straight_length R (marks_of W.between n.spots n.pins p q n.edges F) (spot_at n.spots) (length n.spots),
           subst Q (sym e) (λ u w l b. (kept W laws n t two p q hq F).spared h u w l (branch_long W laws n t two p q hq F u w l b).1 b),
         )
 
     -- then the joined tree is the straight one
-    unjoined : (rows : List Row) (j : JoinedTree W.between W.meeting n.spots n.pins p q n.edges rows) (F : Planted (length n.spots) n.edges) → Spares (rules_of W.between n.spots n.pins p q) F.forest → rows ≡ j.unjoined
+    unjoined : (rows : List Row) (j : JoinedTree W.between W.meeting n.spots n.pins p q n.edges rows) (F : Planted (length n.spots) n.edges) → Spares (net_rules W.between n.spots n.pins p q) F.forest → rows ≡ j.unjoined
     unjoined rows j F h =
         let P = j.straight.planted in
-        let Q : Forest → Type 0 = λ x. Spares (rules_of W.between n.spots n.pins p q) x in
+        let Q : Forest → Type 0 = λ x. Spares (net_rules W.between n.spots n.pins p q) x in
         let g = walked W laws n t two p q (t.allowed p q al).1 P in
         joins_none W.between W.meeting (no_breakpoints (marks_of W.between n.spots n.pins p q n.edges P) (length n.spots) (g.unbroken (subst Q (same_forest F P) h))) j.joins
 
     pub straight_within : (rows : List Row) → StraightTree W.between n.spots n.pins p q n.edges rows → WithinBounds W n p q rows
     straight_within rows s =
         let hq = (t.allowed p q al).1 in
-        let R = rules_of W.between n.spots n.pins p q in
+        let R = net_rules W.between n.spots n.pins p q in
         let P = s.planted in
         let keeps = kept W laws n t two p q hq P in
         let Q : List Row → Type 0 = λ xs. (k : ℕ) → k < n.pins → q * path_length xs k ≤ (p + q) * W.between (spot_at n.spots 0) (spot_at n.spots k) in
@@ -87,11 +87,11 @@ module _ (W : World) (laws : Keeps W) (n m : State) (t : Tied W.admitted W.width
               ap (λ xs. path_length xs v) e ∙ (kept W laws n t two p q hq F).breakpoints v b.0 b.1 ∙ direct_is W laws n t two p q hq F v b.0;
         }
 
-    joined_kept : (rows : List Row) (j : JoinedTree W.between W.meeting n.spots n.pins p q n.edges rows) → Kept W.between W.meeting j.unjoined rows
+    joined_kept : (rows : List Row) (j : JoinedTree W.between W.meeting n.spots n.pins p q n.edges rows) → JoinedKeeps W.between W.meeting j.unjoined rows
     joined_kept rows j =
         let b = j.straight in
         let hq = (t.allowed p q al).1 in
-        let nar : W.width ≤ limit = t.narrow (omega (arith, t.pins)) in
+        let nar : W.width ≤ LONGEST = t.narrow (omega (arith, t.pins)) in
         let first = placed_straight W laws n t two p q al j.unjoined b in
         let G : List Row → Type 0 = λ xs. Grouped W.between W.meeting W.admitted xs (breakpoints (marks_of W.between n.spots n.pins p q n.edges b.planted) (length n.spots)) in
         let grouped = subst G (sym b.built) (straight_grouped W laws n t two p q hq b.planted) in
@@ -140,7 +140,7 @@ module _ (W : World) (laws : Keeps W) (n m : State) (t : Tied W.admitted W.width
         let T : List Row → Type 0 = λ xs. JoinedTree W.between W.meeting n.spots n.pins p q n.edges xs in
         subst T is (subst S same b.4)
 
-    spared_joined : (F : Planted (length n.spots) n.edges) → Spares (rules_of W.between n.spots n.pins p q) F.forest → (length rows ≡ length n.spots) × ((u w l : ℕ) → Branch 0 F.forest u w l → (up rows w ≡ u) × (length_of rows w ≡ l))
+    spared_joined : (F : Planted (length n.spots) n.edges) → Spares (net_rules W.between n.spots n.pins p q) F.forest → (length rows ≡ length n.spots) × ((u w l : ℕ) → Branch 0 F.forest u w l → (up rows w ≡ u) × (row_length rows w ≡ l))
     spared_joined F h =
         let j = joined_now in
         let T : List Row → Type 0 = λ xs. StraightTree W.between n.spots n.pins p q n.edges xs in

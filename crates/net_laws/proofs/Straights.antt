@@ -10,27 +10,28 @@ use Rattle.build_laws.proofs.Building.{straight_length, straight_of, straight_ro
 use Rattle.forest.specs.Edges.{Near}
 use Rattle.forest.specs.Growth.{Planted}
 use Rattle.forest.proofs.Accepted.{accepted, accepted_good}
-use Rattle.space.specs.Laws.{Metric, limit}
+use Rattle.space.specs.Laws.{Metric}
+use Rattle.space.specs.declared.TheConstants.{LONGEST}
 use Rattle.space.specs.declared.spot.Spot.{Spot}
 use Rattle.space.specs.Spots.{origin, spot_of as spot_at}
-use Rattle.tree_laws.specs.Trees.{length_of, path_length, row_of, spot_of, up}
+use Rattle.tree_laws.specs.Trees.{row_length, path_length, row_of, row_spot, up}
 use Rattle.tree_laws.specs.declared.Row.{Row}
 use Rattle.tree_laws.proofs.Ways.{path_driver}
-use Rattle.walk_laws.specs.Promise.{Branch, Guarantee, Spanning, Triangle}
-use Rattle.walk_laws.specs.Walk.{Rules, Table}
+use Rattle.walk_laws.specs.Promise.{Branch, WalkGuarantee, RootedTree, Triangle}
+use Rattle.walk_laws.specs.Walk.{Rules, Marks}
 use Rattle.walk_laws.proofs.Keeps.{walk_keeps_lem}
 use Rattle.walk_laws.proofs.Planting.{branch_near, planted_spans}
-use Rattle.net_laws.specs.Answers.{breakpoints, broken_if, marks_of, rules_of}
-use Rattle.net_laws.specs.Geometry.{World}
+use Rattle.net_laws.specs.Answers.{breakpoints, broken_if, marks_of, net_rules}
+use Rattle.net_laws.specs.Geometry.{Geometry}
 use Rattle.net_laws.specs.States.{State}
-use Rattle.net_laws.specs.Worlds.{Keeps, Placed, Tied}
+use Rattle.net_laws.specs.Spaces.{Keeps, Placed, Tied}
 
 -- a breakpoint of the list is a node that is one
 among_broken : (b : Bool) (v x : ℕ) → Among x (broken_if b v) → (x ≡ v) × (b ≡ true)
 among_broken true v x a = (among_one a, refl)
 among_broken false v x a = absurd (among_none a)
 
-pub among_breakpoints : (S : Table) (n x : ℕ) → Among x (breakpoints S n) → (x < n) × ((S x).broken ≡ true)
+pub among_breakpoints : (S : Marks) (n x : ℕ) → Among x (breakpoints S n) → (x < n) × ((S x).broken ≡ true)
 among_breakpoints S zero x a = absurd (among_none a)
 among_breakpoints S (suc n) x a =
     ⊎_elim
@@ -38,7 +39,7 @@ among_breakpoints S (suc n) x a =
     (λ (i : Among x (broken_if (S n).broken n)). let r = among_broken (S n).broken n x i in (omega (arith, r.0), ap (λ v. (S v).broken) r.0 ∙ r.1))
     (among_either (breakpoints S n) (broken_if (S n).broken n) a)
 
-module _ (W : World) (laws : Keeps W) (n : State) (t : Tied W.admitted W.width W.between n) (two : 2 ≤ n.pins) where
+module _ (W : Geometry) (laws : Keeps W) (n : State) (t : Tied W.admitted W.width W.between n) (two : 2 ≤ n.pins) where
   abbrev pub d : Spot → Spot → ℕ
   d = W.between
 
@@ -48,7 +49,7 @@ module _ (W : World) (laws : Keeps W) (n : State) (t : Tied W.admitted W.width W
   abbrev pub spot : ℕ → Spot
   spot = spot_at n.spots
 
-  pub narrow : W.width ≤ limit
+  pub narrow : W.width ≤ LONGEST
   narrow = t.narrow (omega (arith, t.pins))
 
   pub metric : Metric W.admitted W.width W.between
@@ -73,18 +74,18 @@ module _ (W : World) (laws : Keeps W) (n : State) (t : Tied W.admitted W.width W
 
   module _ (p q : ℕ) (hq : 0 < q) (F : Planted (length n.spots) n.edges) where
     abbrev pub R : Rules
-    R = rules_of W.between n.spots n.pins p q
+    R = net_rules W.between n.spots n.pins p q
 
-    abbrev pub S : Table
+    abbrev pub S : Marks
     S = marks_of W.between n.spots n.pins p q n.edges F
 
     abbrev pub rows : List Row
     rows = straight R S (spot_at n.spots) N
 
-    spans : Spanning N F.rank F.forest
+    spans : RootedTree N F.rank F.forest
     spans = planted_spans N n.edges t.edges F
 
-    pub walked : Guarantee R N F.forest S
+    pub walked : WalkGuarantee R N F.forest S
     walked = walk_keeps_lem R N F.rank F.forest hq spans
 
     pub kept : Straight R N F.forest S rows
@@ -115,21 +116,21 @@ module _ (W : World) (laws : Keeps W) (n : State) (t : Tied W.admitted W.width W
     row_is : (k : ℕ) → k < N → row_of rows k ≡ straight_row R S spot k
     row_is k h = straight_row_lem R S spot N k h
 
-    pub spot_is : (k : ℕ) → k < N → spot_of rows k ≡ spot k
+    pub spot_is : (k : ℕ) → k < N → row_spot rows k ≡ spot k
     spot_is k h = ap (λ (r : Row). r.spot) (row_is k h)
 
     -- a row that hangs on u, a node, at its distance from it
-    long_on : (k u : ℕ) → k < N → u < N → up rows k ≡ u → length_of rows k ≡ d (spot u) (spot k) → length_of rows k ≡ d (spot_of rows (up rows k)) (spot_of rows k)
+    long_on : (k u : ℕ) → k < N → u < N → up rows k ≡ u → row_length rows k ≡ d (spot u) (spot k) → row_length rows k ≡ d (row_spot rows (up rows k)) (row_spot rows k)
     long_on k u h hu e l =
-        l ∙ ap (λ (z : Spot). d z (spot k)) (sym (ap (spot_of rows) e ∙ spot_is u hu)) ∙ ap (d (spot_of rows (up rows k))) (sym (spot_is k h))
+        l ∙ ap (λ (z : Spot). d z (spot k)) (sym (ap (row_spot rows) e ∙ spot_is u hu)) ∙ ap (d (row_spot rows (up rows k))) (sym (spot_is k h))
 
-    long_broken : (k : ℕ) → k < N → (k ≡ 0 → ⊥) → (S k).broken ≡ true → length_of rows k ≡ d (spot_of rows (up rows k)) (spot_of rows k)
+    long_broken : (k : ℕ) → k < N → (k ≡ 0 → ⊥) → (S k).broken ≡ true → row_length rows k ≡ d (row_spot rows (up rows k)) (row_spot rows k)
     long_broken k h ne b =
         long_on k 0 h (omega arith)
         (ap (λ (r : Row). r.parent) (row_is k h) ∙ cond-true (eqb k 0 || (S k).broken) 0 (S k).parent (or_right _ _ b))
         (ap (λ (r : Row). r.length) (row_is k h) ∙ cond-false (eqb k 0) 0 (cond (S k).broken (R.direct k) (S k).edge) (ne_eqb k 0 ne) ∙ cond-true (S k).broken (R.direct k) (S k).edge b ∙ direct_is k h)
 
-    long_hung : (k : ℕ) → k < N → (k ≡ 0 → ⊥) → (S k).broken ≡ false → length_of rows k ≡ d (spot_of rows (up rows k)) (spot_of rows k)
+    long_hung : (k : ℕ) → k < N → (k ≡ 0 → ⊥) → (S k).broken ≡ false → row_length rows k ≡ d (row_spot rows (up rows k)) (row_spot rows k)
     long_hung k h ne b =
         let e = walked.told k h in
         let g = walked.hangs k e.0 h ne b e.1 in
@@ -183,6 +184,6 @@ module _ (W : World) (laws : Keeps W) (n : State) (t : Tied W.admitted W.width W
           rows_of = λ v a. omega (arith, rows_length, (is v a).0);
           others = high;
           hung = hung;
-          long = λ v a. long_broken v (is v a).0 (high v a) (is v a).1 ∙ ap (λ x. d (spot_of rows x) (spot_of rows v)) (hung v a);
+          long = λ v a. long_broken v (is v a).0 (high v a) (is v a).1 ∙ ap (λ x. d (row_spot rows x) (row_spot rows v)) (hung v a);
           admits = λ v a. p.admitted v (omega (arith, rows_length, (is v a).0));
         }

@@ -9,15 +9,16 @@ use Rattle.forest.proofs.Accepted.{accepted, accepted_good, sound_none, sound_pu
 use Rattle.forest.proofs.Chains.{joined_on}
 use Rattle.order.specs.Firsts.{Among}
 use Rattle.order.proofs.Finding.{among_either, among_none, among_one}
-use Rattle.space.specs.Laws.{limit}
+use Rattle.space.specs.declared.TheConstants.{LONGEST}
 use Rattle.space.specs.declared.spot.Spot.{Spot}
 use Rattle.space.specs.Spots.{origin, spot_of as spot_at}
-use Rattle.span_laws.specs.Spanning.{Spanning}
+use Rattle.span_laws.specs.Spanning.{SpanningSeed}
 use Rattle.tree_laws.specs.declared.Row.{Row}
-use Rattle.net_laws.specs.Answers.{Hooks, JoinAnswers, JoinedTree, Lawful, Shares, StraightTree, breakpoints, marks_of}
-use Rattle.net_laws.specs.Geometry.{World}
+use Rattle.net_laws.specs.Answers.{Hooks, JoinAnswers, JoinedTree, Shares, StraightTree, breakpoints, marks_of}
+use Rattle.walk_laws.specs.Walk.{LawfulAllowance}
+use Rattle.net_laws.specs.Geometry.{Geometry}
 use Rattle.net_laws.specs.States.{State, unseeded, with_allowance, with_edge, with_pin, with_point, with_seed, with_tree}
-use Rattle.net_laws.specs.Worlds.{Keeps, Placed, Tied}
+use Rattle.net_laws.specs.Spaces.{Keeps, Placed, Tied}
 use Rattle.net_laws.specs.declared.call.Call.TheVariants.{Pin, Allow, Steiner, Edge as EdgeOf, Unseed, Span, Straight, Hook}
 use Rattle.net_laws.specs.declared.call.JoinCall.{JoinCall}
 use Rattle.net_laws.specs.declared.call.JoinCall.TheVariants.{Wire, Joined as JoinedCall, Share}
@@ -54,7 +55,7 @@ among_place (x ∷ E) e a =
     (λ (i : Among e E). let r = among_place E e i in (suc r.0, omega (arith, r.1), r.2))
     (among_either (x ∷ []) E a)
 
-module _ (W : World) (laws : Keeps W) where
+module _ (W : Geometry) (laws : Keeps W) where
   abbrev T : State → Type 0
   T n = Tied W.admitted W.width W.between n
 
@@ -78,7 +79,7 @@ module _ (W : World) (laws : Keeps W) where
           rows = λ rows e. absurd (no_rows rows e);
         }
 
-    tied_pin : (z : Spot) → W.width ≤ limit → W.admitted z ≡ true → ((k : ℕ) → k < n.pins → 1 ≤ d (spot_at n.spots k) z) → T (with_pin n z)
+    tied_pin : (z : Spot) → W.width ≤ LONGEST → W.admitted z ≡ true → ((k : ℕ) → k < n.pins → 1 ≤ d (spot_at n.spots k) z) → T (with_pin n z)
     tied_pin z nar adm far =
         let front = take n.pins n.spots in
         let l = front_length n.pins n.spots t.pins in
@@ -113,13 +114,13 @@ module _ (W : World) (laws : Keeps W) where
           rows = λ rows e. absurd (no_rows rows e);
         }
 
-    tied_allow : (p q : ℕ) → Lawful p q → T (with_allowance n p q)
+    tied_allow : (p q : ℕ) → LawfulAllowance p q → T (with_allowance n p q)
     tied_allow p q ok = record {
       narrow = t.narrow;
       pins = t.pins;
       allowed = λ p' q' e.
           let s : (p, q) ≡ (p', q') = same_some (p, q) (p', q') e in
-          let P : ℕ × ℕ → Type 0 = λ x. Lawful x.0 x.1 in
+          let P : ℕ × ℕ → Type 0 = λ x. LawfulAllowance x.0 x.1 in
           subst P s ok;
       admitted = t.admitted;
       apart = t.apart;
@@ -154,7 +155,7 @@ module _ (W : World) (laws : Keeps W) where
     tied_edge : (a b l : ℕ) → 2 ≤ n.pins → a < length n.spots → b < length n.spots → (Joined n.edges a b → ⊥) → 1 ≤ d (spot_at n.spots a) (spot_at n.spots b) → l ≡ d (spot_at n.spots a) (spot_at n.spots b) → T (with_edge n a b l)
     tied_edge a b l two ha hb off pos e =
         let N = length n.spots in
-        let nar : W.width ≤ limit = t.narrow (omega (arith, t.pins)) in
+        let nar : W.width ≤ LONGEST = t.narrow (omega (arith, t.pins)) in
         let m = laws.metric nar in
         record {
           narrow = t.narrow;
@@ -175,12 +176,12 @@ module _ (W : World) (laws : Keeps W) where
         }
 
     -- each edge of the spanning seed joins two pins at their distance
-    module _ (two : 2 ≤ n.pins) (E : List Edge) (s : Spanning n.pins (λ u v. W.between (spot_at n.spots u) (spot_at n.spots v)) E) where
+    module _ (two : 2 ≤ n.pins) (E : List Edge) (s : SpanningSeed n.pins (λ u v. W.between (spot_at n.spots u) (spot_at n.spots v)) E) where
       sound_spanned : Sound n.pins E
       sound_spanned i x h =
           let f = (s.steps i x h).pair in
           let e = get_or E i x in
-          let nar : W.width ≤ limit = t.narrow (omega (arith, t.pins)) in
+          let nar : W.width ≤ LONGEST = t.narrow (omega (arith, t.pins)) in
           let P : ℕ → Type 0 = λ v. Joined (take i E) 0 v in
           let ne : e.a ≡ e.b → ⊥ = λ q. f.outside (subst P q f.inside) in
           let m = (laws.metric nar).within (spot_at n.spots e.a) (spot_at n.spots e.b) (t.admitted e.a (omega (arith, t.pins, f.inner))) (t.admitted e.b (omega (arith, t.pins, f.outer))) in
@@ -236,7 +237,7 @@ module _ (W : World) (laws : Keeps W) where
     pub placed_joined : 2 ≤ n.pins → (p q : ℕ) → n.allowance ≡ Some (p, q) → (rows : List Row) → JoinedTree W.between W.meeting n.spots n.pins p q n.edges rows → Placed W.admitted W.between n rows
     placed_joined two p q al rows s =
         let hq = (t.allowed p q al).1 in
-        let nar : W.width ≤ limit = t.narrow (omega (arith, t.pins)) in
+        let nar : W.width ≤ LONGEST = t.narrow (omega (arith, t.pins)) in
         let before = placed_straight two p q al s.unjoined s.straight in
         let G : List Row → Type 0 = λ xs. Grouped W.between W.meeting W.admitted xs (breakpoints (marks_of W.between n.spots n.pins p q n.edges s.straight.planted) (length n.spots)) in
         let g = subst G (sym s.straight.built) (straight_grouped W laws n t two p q hq s.straight.planted) in
@@ -246,7 +247,7 @@ module _ (W : World) (laws : Keeps W) where
       pub standing_placed : Placed W.admitted W.between n rows
       standing_placed = t.rows rows e
 
-      pub standing_narrow : W.width ≤ limit
+      pub standing_narrow : W.width ≤ LONGEST
       standing_narrow = t.narrow (omega (arith, t.pins, standing_placed.two))
 
       pub placed_hook : (w : ℕ) (after : List Row) → Hooks W.between rows w after → Placed W.admitted W.between n after

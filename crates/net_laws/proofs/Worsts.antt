@@ -4,19 +4,19 @@ use Rattle.std.specs.Option.{IsSome, unwrap_or}
 use Rattle.std.proofs.lemmas.Bool.{and_from, ltb-false}
 use Rattle.net_laws.specs.Readings.{WorstOf, direct_distance, figure_of}
 use Rattle.net_laws.specs.States.{State}
-use Rattle.net_laws.specs.Worlds.{Whole}
+use Rattle.net_laws.specs.Spaces.{TiedToSpace}
 use Rattle.net_laws.specs.Worsts.{worst_before, worst_order}
 use Rattle.net_laws.specs.declared.reading.Worst.{Worst}
 use Rattle.order.specs.Bests.{BestOf, Found}
 use Rattle.order.specs.Firsts.{FirstOf}
 use Rattle.order.specs.Lexical.{then_false}
 use Rattle.order.proofs.Deciding.{found_best}
-use Rattle.space.specs.Laws.{Metric, answered, limit}
+use Rattle.space.specs.Laws.{Metric, answered}
+use Rattle.space.specs.declared.TheConstants.{LONGEST}
 use Rattle.space.specs.declared.Space.{Ghosts}
 use Rattle.space.specs.declared.spot.Spot.{Spot}
 use Rattle.space.specs.Spots.{spot_of}
-use Rattle.span.specs.Lengths.{length_of}
-use Rattle.tree_laws.specs.Distances.{reach_of}
+use Rattle.space.specs.Totals.{edge_length, capped_distance}
 use Rattle.tree_laws.proofs.HookMoves.{uncut}
 use Rattle.tree_laws.specs.Trees.{path_length}
 use Rattle.tree_laws.specs.declared.Row.{Row}
@@ -51,21 +51,21 @@ pub answered_or : (b : Bool) (x : ℕ) (o : Option ℕ) → o ≡ answered b x �
 answered_or true x o e = omega (arith, ap (λ z. unwrap_or z 0) e)
 answered_or false x o e = omega (arith, ap (λ z. unwrap_or z 0) e)
 
-module _ {X : Type 0} (G : Ghosts X) (s : X) (n : State) (law : G.width s ≤ limit → Metric (G.admitted s) (G.width s) (G.between s)) (h : Whole G s n) where
-  direct_own : (k : ℕ) → 0 < k → k < n.pins → direct_distance (length_of G s) n k ≡ direct_distance (G.between s) n k
+module _ {X : Type 0} (G : Ghosts X) (s : X) (n : State) (law : G.width s ≤ LONGEST → Metric (G.admitted s) (G.width s) (G.between s)) (h : TiedToSpace G s n) where
+  direct_own : (k : ℕ) → 0 < k → k < n.pins → direct_distance (edge_length G s) n k ≡ direct_distance (G.between s) n k
   direct_own k p b =
       let some : 0 < length n.spots = omega (arith, h.pins) in
       let a = h.admitted 0 some in
       let c = h.admitted k (omega (arith, h.pins)) in
       let x = direct_distance (G.between s) n k in
-      let e : direct_distance (reach_of G s) n k ≡ x = uncut x (G.width s) _ (and_from _ _ a c) ((law (h.narrow some)).within (spot_of n.spots 0) (spot_of n.spots k) a c) (h.narrow some) in
+      let e : direct_distance (capped_distance G s) n k ≡ x = uncut x (G.width s) _ (and_from _ _ a c) ((law (h.narrow some)).within (spot_of n.spots 0) (spot_of n.spots k) a c) (h.narrow some) in
       let one : 1 ≤ x = h.apart 0 k (omega arith) b (λ q. omega (arith, q)) in
       ap (max 1) e ∙ at_least x one
     where
       at_least : (x : ℕ) → 1 ≤ x → max 1 x ≡ x
       at_least x o = omega arith
 
-  pub worst_own : (rows : List Row) (r : Worst) → WorstOf (length_of G s) n rows r → WorstOf (G.between s) n rows r
+  pub worst_own : (rows : List Row) (r : Worst) → WorstOf (edge_length G s) n rows r → WorstOf (G.between s) n rows r
   worst_own rows r w = record {
     sink = w.sink;
     figure = w.figure ∙ same r.pin w.sink.0 w.sink.1;
@@ -73,5 +73,5 @@ module _ {X : Type 0} (G : Ghosts X) (s : X) (n : State) (law : G.width s ≤ li
     lowest = λ k p b. omega (arith, same k p (omega (arith, w.sink.1)), w.lowest k p b);
   }
     where
-      same : (k : ℕ) → 0 < k → k < n.pins → figure_of (length_of G s) n rows k ≡ figure_of (G.between s) n rows k
+      same : (k : ℕ) → 0 < k → k < n.pins → figure_of (edge_length G s) n rows k ≡ figure_of (G.between s) n rows k
       same k p b = ap (λ z. 1000 * path_length rows k / z) (direct_own k p b)

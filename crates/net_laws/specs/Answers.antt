@@ -1,5 +1,6 @@
 -- What each call asks, in order, and what it answers. Assumes nothing.
 use Rattle.std.specs.Prelude.{◌≡◌, ℕ, zero, suc, ◌+◌, ◌<◌, ◌≤◌, Bool, true, false, ◌⊎◌, List, [], ◌∷◌, ◌++◌, map, length, Some, None, Ok, Err, Result, slice_index}
+use Rattle.walk_laws.specs.Walk.{LawfulAllowance, Rules, Marks, start, walk}
 use Rattle.build_laws.specs.Joining.{Joins}
 use Rattle.build_laws.specs.Straight.{straight}
 use Rattle.forest.specs.Edges.{Joined, wire}
@@ -7,18 +8,17 @@ use Rattle.forest.specs.Growth.{Planted}
 use Rattle.forest.specs.declared.Edge.{Edge}
 use Rattle.tree_laws.specs.Shares.{ShareMove, share_before, shared_by}
 use Rattle.tree_laws.specs.declared.share.Share.{Share}
-use Rattle.space.specs.Laws.{limit}
+use Rattle.space.specs.declared.TheConstants.{LONGEST}
 use Rattle.space.specs.declared.spot.Spot.{Spot}
 use Rattle.space.specs.Spots.{spot_of as spot_at}
-use Rattle.span_laws.specs.Spanning.{Spanning}
+use Rattle.span_laws.specs.Spanning.{SpanningSeed}
 use Rattle.order.specs.Bests.{BestOf}
 use Rattle.tree_laws.specs.Hooks.{HookMove, hook_before}
 use Rattle.tree_laws.specs.declared.hook.Hook.{Hook}
-use Rattle.tree_laws.specs.Trees.{hang, spot_of, wire_of}
+use Rattle.tree_laws.specs.Trees.{hang, row_spot, wire_of}
 use Rattle.tree_laws.specs.declared.Row.{Row}
-use Rattle.walk_laws.specs.Walk.{Rules, Table, start, walk}
 use Rattle.net_laws.specs.Faults.{number_of}
-use Rattle.net_laws.specs.Geometry.{World}
+use Rattle.net_laws.specs.Geometry.{Geometry}
 use Rattle.net_laws.specs.States.{State, unseeded, with_allowance, with_edge, with_pin, with_point, with_seed, with_tree}
 use Rattle.net_laws.specs.declared.call.Call.{Call}
 use Rattle.net_laws.specs.declared.call.Call.TheVariants.{Pin, Allow, Steiner, Edge as EdgeOf, Unseed, Span, Straight, Hook as HookCall}
@@ -51,26 +51,26 @@ Zero (Err e) = Unit {0}
 -- ---- trees
 
 -- The allowance, which nodes are pins, and the distance of each node from the driver.
-abbrev pub rules_of : (Spot → Spot → ℕ) → List Spot → (pins p q : ℕ) → Rules
-rules_of d spots pins p q = record { p = p; q = q; pins = pins; direct = λ v. slice_index (map (d (spot_at spots 0)) spots) v }
+abbrev pub net_rules : (Spot → Spot → ℕ) → List Spot → (pins p q : ℕ) → Rules
+net_rules d spots pins p q = record { p = p; q = q; pins = pins; direct = λ v. slice_index (map (d (spot_at spots 0)) spots) v }
 
 -- What the walk over the seed, seen from the driver, marks.
-abbrev pub marks_of : (Spot → Spot → ℕ) → (spots : List Spot) (pins p q : ℕ) (E : List Edge) → Planted (length spots) E → Table
-marks_of d spots pins p q E F = walk (rules_of d spots pins p q) 0 F.forest start
+abbrev pub marks_of : (Spot → Spot → ℕ) → (spots : List Spot) (pins p q : ℕ) (E : List Edge) → Planted (length spots) E → Marks
+marks_of d spots pins p q E F = walk (net_rules d spots pins p q) 0 F.forest start
 
 -- The breakpoints below n, in ascending number.
 abbrev pub broken_if : Bool → ℕ → List ℕ
 broken_if true v = v ∷ []
 broken_if false v = []
 
-abbrev pub breakpoints : Table → (n : ℕ) → List ℕ
+abbrev pub breakpoints : Marks → (n : ℕ) → List ℕ
 breakpoints S zero = []
 breakpoints S (suc n) = breakpoints S n ++ broken_if (S n).broken n
 
 -- The rows are the straight tree: the breakpoints of the walk hang on the driver, and every other node on its parent from the walk.
 pub record StraightTree (d : Spot → Spot → ℕ) (spots : List Spot) (pins p q : ℕ) (E : List Edge) (rows : List Row) : Type 0 where
   pub planted : Planted (length spots) E
-  pub built : rows ≡ straight (rules_of d spots pins p q) (marks_of d spots pins p q E planted) (spot_at spots) (length spots)
+  pub built : rows ≡ straight (net_rules d spots pins p q) (marks_of d spots pins p q E planted) (spot_at spots) (length spots)
 
 -- The rows are the joined tree: the breakpoints of the straight tree are joined pair after pair.
 pub record JoinedTree (d : Spot → Spot → ℕ) (m : Spot → Spot → Spot → Spot) (spots : List Spot) (pins p q : ℕ) (E : List Edge) (rows : List Row) : Type 0 where
@@ -81,9 +81,9 @@ pub record JoinedTree (d : Spot → Spot → ℕ) (m : Spot → Spot → Spot �
 -- The best hook move of the rows saves w and leaves the rows `after`.
 pub record Hooks (d : Spot → Spot → ℕ) (rows : List Row) (w : ℕ) (after : List Row) : Type 0 where
   pub move : Hook
-  pub best : BestOf hook_before (HookMove rows (λ u v. d (spot_of rows u) (spot_of rows v))) (Some move)
+  pub best : BestOf hook_before (HookMove rows (λ u v. d (row_spot rows u) (row_spot rows v))) (Some move)
   pub saves : w ≡ move.saving
-  pub hung : after ≡ hang rows move.v move.u (d (spot_of rows move.u) (spot_of rows move.v))
+  pub hung : after ≡ hang rows move.v move.u (d (row_spot rows move.u) (row_spot rows move.v))
 
 -- The best share move of the rows saves w and leaves the rows `after`.
 pub record Shares (d : Spot → Spot → ℕ) (m : Spot → Spot → Spot → Spot) (rows : List Row) (w : ℕ) (after : List Row) : Type 0 where
@@ -98,18 +98,14 @@ pub record Shares (d : Spot → Spot → ℕ) (m : Spot → Spot → Spot → Sp
 abbrev pub Stands : State → List Row → Type 0
 Stands n rows = n.tree ≡ Some rows
 
--- An allowance that a net takes.
-abbrev pub Lawful : (p q : ℕ) → Type 0
-Lawful p q = (p ≤ 1000) × (1 ≤ q) × (q ≤ 1000)
-
-module _ (W : World) (n m : State) where
+module _ (W : Geometry) (n m : State) where
   abbrev pub PinAnswer : Spot → Result ℕ Fault → Type 0
   PinAnswer z =
-      asks 1 (W.width ≤ limit) (asks 2 (W.admitted z ≡ true) (asks 3 (n.pins < 256) (asks 4 ((k : ℕ) → k < n.pins → 1 ≤ W.between (spot_at n.spots k) z)
+      asks 1 (W.width ≤ LONGEST) (asks 2 (W.admitted z ≡ true) (asks 3 (n.pins < 256) (asks 4 ((k : ℕ) → k < n.pins → 1 ≤ W.between (spot_at n.spots k) z)
       (accepts (λ k. (k ≡ n.pins) × (m ≡ with_pin n z))))))
 
   abbrev pub AllowAnswer : {A : Type 0} → (p q : ℕ) → Result A Fault → Type 0
-  AllowAnswer p q = asks 5 (Lawful p q) (accepts (λ k. m ≡ with_allowance n p q))
+  AllowAnswer p q = asks 5 (LawfulAllowance p q) (accepts (λ k. m ≡ with_allowance n p q))
 
   abbrev pub SteinerAnswer : Spot → Result ℕ Fault → Type 0
   SteinerAnswer z =
@@ -128,7 +124,7 @@ module _ (W : World) (n m : State) where
   abbrev pub SpanBy : (d : Spot → Spot → ℕ) → Result ℕ Fault → Type 0
   SpanBy d =
       asks 6 (2 ≤ n.pins)
-      (accepts (λ w. (E : List Edge) × Spanning n.pins (λ u v. d (spot_at n.spots u) (spot_at n.spots v)) E × (w ≡ wire E) × (m ≡ with_seed n E)))
+      (accepts (λ w. (E : List Edge) × SpanningSeed n.pins (λ u v. d (spot_at n.spots u) (spot_at n.spots v)) E × (w ≡ wire E) × (m ≡ with_seed n E)))
 
   abbrev pub SpanAnswer : Result ℕ Fault → Type 0
   SpanAnswer = SpanBy W.between
@@ -147,7 +143,7 @@ module _ (W : World) (n m : State) where
 
   abbrev pub HookAnswer : Result ℕ Fault → Type 0
   HookAnswer =
-      asks 13 ((n.tree ≡ None) → ⊥) (asks 14 ((rows : List Row) × Stands n rows × ((h : Hook) × HookMove rows (λ u v. W.between (spot_of rows u) (spot_of rows v)) h))
+      asks 13 ((n.tree ≡ None) → ⊥) (asks 14 ((rows : List Row) × Stands n rows × ((h : Hook) × HookMove rows (λ u v. W.between (row_spot rows u) (row_spot rows v)) h))
       (accepts (λ w. (rows after : List Row) × Stands n rows × Hooks W.between rows w after × (m ≡ with_tree n after))))
 
   abbrev pub ShareAnswer : Result ℕ Fault → Type 0

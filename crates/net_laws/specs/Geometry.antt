@@ -3,7 +3,7 @@ use Rattle.std.specs.Prelude.{ℕ, Bool}
 use Rattle.space.specs.declared.spot.Spot.{Spot}
 
 -- Which spots it admits, how wide it is, the distance of two spots, and the meet of a and b seen from o.
-pub record World : Type 0 where
+pub record Geometry : Type 0 where
   pub admitted : Spot → Bool
   pub width : ℕ
   pub between : Spot → Spot → ℕ

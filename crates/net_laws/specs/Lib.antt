@@ -5,7 +5,7 @@ pub mod Answers
 pub mod Builds
 pub mod Readings
 pub mod Worsts
-pub mod Worlds
+pub mod Spaces
 pub mod Logs
 pub mod Guarantee
 pub mod Sinks

@@ -4,9 +4,9 @@ use Rattle.forest.specs.declared.Edge.{Edge}
 use Rattle.forest.specs.Edges.{edge}
 use Rattle.space.specs.declared.spot.Spot.{Spot}
 use Rattle.space.specs.Spots.{spot_of as spot_at}
-use Rattle.span_laws.specs.Spanning.{Spanning}
+use Rattle.span_laws.specs.Spanning.{SpanningSeed}
 use Rattle.net_laws.specs.Answers.{JoinAnswers}
-use Rattle.net_laws.specs.Geometry.{World}
+use Rattle.net_laws.specs.Geometry.{Geometry}
 use Rattle.net_laws.specs.States.{State}
 use Rattle.net_laws.specs.declared.call.Call.{Call}
 use Rattle.net_laws.specs.declared.call.Call.TheVariants.{Pin, Allow, Steiner, Edge as EdgeOf, Unseed, Span, Straight, Hook}
@@ -111,7 +111,7 @@ allowance_of (e ∷ log) = allowance_after (effect_of e) (allowance_of log)
 -- spanning seed of the pins.
 abbrev pub SeedAfter : (Spot → Spot → ℕ) → List Spot → Effect → (List Edge → Type 0) → List Edge → Type 0
 SeedAfter d pins (adds_edge a b l) Seed E = (D : List Edge) × Seed D × (E ≡ D ++ edge a b l ∷ [])
-SeedAfter d pins spans Seed E = Spanning (length pins) (λ u v. d (spot_at pins u) (spot_at pins v)) E
+SeedAfter d pins spans Seed E = SpanningSeed (length pins) (λ u v. d (spot_at pins u) (spot_at pins v)) E
 SeedAfter d pins (adds_pin z) Seed E = E ≡ []
 SeedAfter d pins drops_seed Seed E = E ≡ []
 SeedAfter d pins nothing Seed E = Seed E
@@ -136,9 +136,9 @@ stands_after (adds_edge x y l) b = false
 stands_after drops_seed b = false
 stands_after spans b = false
 
-abbrev pub standing : Log → Bool
-standing [] = false
-standing (e ∷ log) = stands_after (effect_of e) (standing log)
+abbrev pub tree_stands : Log → Bool
+tree_stands [] = false
+tree_stands (e ∷ log) = stands_after (effect_of e) (tree_stands log)
 
 -- The sum of the savings that were answered.
 abbrev pub saving_after : Effect → ℕ → ℕ
@@ -173,6 +173,6 @@ keeps_tree [] = true
 keeps_tree (e ∷ log) = keeps (effect_of e) && keeps_tree log
 
 -- The net n becomes m by the calls of the log, each answered as its own contract says.
-pub data Runs (W : World) (n : State) : Log → State → Type 0 where
+pub data Runs (W : Geometry) (n : State) : Log → State → Type 0 where
   still : Runs W n [] n
   next : {k m : State} {log : Log} {c : JoinCall} {r : Result ℕ Fault} → Runs W n log k → JoinAnswers W k m c r → Runs W n (record { call = c; answer = r } ∷ log) m

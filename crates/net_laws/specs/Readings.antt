@@ -7,7 +7,7 @@ use Rattle.tree_laws.specs.declared.Row.{Row}
 use Rattle.net_laws.specs.Answers.{Stands, accepts, asks}
 use Rattle.net_laws.specs.States.{State}
 use Rattle.net_laws.specs.declared.fault.Fault.{Fault}
-use Rattle.net_laws.specs.declared.reading.Reach.{Reach}
+use Rattle.net_laws.specs.declared.reading.PinPath.{PinPath}
 use Rattle.net_laws.specs.declared.reading.Worst.{Worst}
 
 -- The row k.
@@ -27,7 +27,7 @@ abbrev pub direct_distance : (Spot → Spot → ℕ) → State → (k : ℕ) →
 direct_distance d n k = d (spot_at n.spots 0) (spot_at n.spots k)
 
 -- The path of the pin k, and its direct distance.
-abbrev pub PathAnswer : (Spot → Spot → ℕ) → State → (k : ℕ) → Result Reach Fault → Type 0
+abbrev pub PathAnswer : (Spot → Spot → ℕ) → State → (k : ℕ) → Result PinPath Fault → Type 0
 PathAnswer d n k =
     asks 13 ((n.tree ≡ None) → ⊥) (asks 16 (k < n.pins)
     (accepts (λ r. (rows : List Row) × Stands n rows × (r.path ≡ path_length rows k) × (r.direct ≡ direct_distance d n k))))

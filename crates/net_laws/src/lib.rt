@@ -8,4 +8,4 @@ mod reading;
 
 pub use call::{Call, JoinCall};
 pub use fault::{Fault, Layer, SpaceFault};
-pub use reading::{Reach, Worst};
+pub use reading::{PinPath, Worst};

@@ -5,7 +5,7 @@ use std::cmp::Reverse;
 
 /// How far a pin is from the driver, in units of the space's distance.
 #[derive(Clone, Copy, Debug, PartialEq, Eq)]
-pub struct Reach {
+pub struct PinPath {
     /// Along the tree.
     pub path: u64,
     /// Directly.

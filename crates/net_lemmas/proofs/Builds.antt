@@ -9,8 +9,8 @@ use Rattle.build_laws.specs.Straight.{straight}
 use Rattle.build_laws.proofs.Building.{straight_length, straight_row_lem}
 use Rattle.forest.specs.declared.Edge.{Edge}
 use Rattle.joined.proofs.Keeping.{among_here}
-use Rattle.joined.specs.Joinings.{Joinable, JoinedBy, Whole}
-use Rattle.net_laws.specs.Answers.{JoinedTree, StraightTree, breakpoints, broken_if, marks_of, rules_of}
+use Rattle.joined.specs.Joinings.{Joinable, JoinedBy, GroupJoined}
+use Rattle.net_laws.specs.Answers.{JoinedTree, StraightTree, breakpoints, broken_if, marks_of, net_rules}
 use Rattle.order.specs.Firsts.{Among}
 use Rattle.space.specs.declared.Joining.{Ghosts as JoinGhosts}
 use Rattle.space.specs.declared.Space.{Ghosts}
@@ -18,12 +18,12 @@ use Rattle.space.specs.declared.spot.Spot.{Spot}
 use Rattle.space.specs.Spots.{spot_of as spot_at}
 use Rattle.straight.specs.Built.{StraightBy, Straightened, breakpoints_of}
 use Rattle.straight.proofs.Mixed.{among_breakpoints}
-use Rattle.tree.specs.declared.table.Table.{Table as Tree-table}
-use Rattle.tree_laws.specs.Trees.{add, hang, spot_of, up}
+use Rattle.tree.specs.declared.table.Tree.{Tree as Tree-table}
+use Rattle.tree_laws.specs.Trees.{add, hang, row_spot, up}
 use Rattle.tree_laws.specs.declared.Row.{Row}
 use Rattle.tree_laws.proofs.Adding.{add_length}
 use Rattle.tree_laws.proofs.Hanging.{hang_length}
-use Rattle.walk_laws.specs.Walk.{Rules, Table}
+use Rattle.walk_laws.specs.Walk.{Rules, Marks}
 
 pub straight_count : (R : Rules) (place : ℕ → Spot) (n : ℕ) (E : List Edge) (found : List ℕ) (w : ℕ) (rows : List Row) → StraightBy R place n E found w rows → length rows ≡ n
 straight_count R place n E found w rows s = ap length s.rows ∙ straight_length R s.marks place n
@@ -31,7 +31,7 @@ straight_count R place n E found w rows s = ap length s.rows ∙ straight_length
 abbrev Rising : List ℕ → Type 0
 Rising xs = (i : ℕ) → i + 1 < length xs → get_or xs i 0 < get_or xs (i + 1) 0
 
-module _ (S : Table) where
+module _ (S : Marks) where
   -- the list goes on with n, or stays
   more : (n : ℕ) → (S n).broken ≡ true → breakpoints_of S (suc n) ≡ breakpoints_of S n ++ n ∷ []
   more n b = cond-true (S n).broken (breakpoints_of S n ++ n ∷ []) (breakpoints_of S n) b
@@ -107,14 +107,14 @@ straight_joinable R place n E found w rows s room =
     on_driver false b u e = cond-true b 0 u e
 
 -- a group that can be joined is joined
-pub joined_some : {X : Type 0} (G : Ghosts X) (J : JoinGhosts X) (s : X) (t₀ : Tree-table) (group : List ℕ) (r : Option ℕ) (t : Tree-table) → JoinedBy G J s t₀ group r t → Joinable t₀.rows group → Whole G J s t₀.rows group (unwrap_or r 0) t.rows
+pub joined_some : {X : Type 0} (G : Ghosts X) (J : JoinGhosts X) (s : X) (t₀ : Tree-table) (group : List ℕ) (r : Option ℕ) (t : Tree-table) → JoinedBy G J s t₀ group r t → Joinable t₀.rows group → GroupJoined G J s t₀.rows group (unwrap_or r 0) t.rows
 joined_some G J s t₀ group None t h j = absurd (h.0 j)
 joined_some G J s t₀ group (Some w) t h j = h
 
 -- what the builder made is the straight tree
 pub straight_tree : (d : Spot → Spot → ℕ) (spots : List Spot) (pins p q : ℕ) (E : List Edge) (found : List ℕ) (w : ℕ) (rows : List Row) → Straightened d spots p q pins (length spots) E found w rows → StraightTree d spots pins p q E rows
 straight_tree d spots pins p q E found w rows h =
-    record { planted = h.walked.planted; built = h.rows ∙ ap (λ S. straight (rules_of d spots pins p q) S (spot_at spots) (length spots)) h.walked.is }
+    record { planted = h.walked.planted; built = h.rows ∙ ap (λ S. straight (net_rules d spots pins p q) S (spot_at spots) (length spots)) h.walked.is }
 
 -- what the joiner made of it is the joined tree
 pub joined_tree : (d : Spot → Spot → ℕ) (m : Spot → Spot → Spot → Spot) (spots : List Spot) (pins p q : ℕ) (E : List Edge) (found : List ℕ) (w : ℕ) (rows after : List Row) → Straightened d spots p q pins (length spots) E found w rows → Joins d m rows found after → JoinedTree d m spots pins p q E after
@@ -124,6 +124,6 @@ joined_tree d m spots pins p q E found w rows after h j =
     h.broken ∙ ap (λ S. breakpoints_of S (length spots)) h.walked.is ∙ breakpoints_listed (marks_of d spots pins p q E h.walked.planted) (length spots) in
     record {
       unjoined = rows;
-      straight = record { planted = h.walked.planted; built = h.rows ∙ ap (λ S. straight (rules_of d spots pins p q) S (spot_at spots) (length spots)) h.walked.is };
+      straight = record { planted = h.walked.planted; built = h.rows ∙ ap (λ S. straight (net_rules d spots pins p q) S (spot_at spots) (length spots)) h.walked.is };
       joins = subst Q e j;
     }

@@ -2,7 +2,7 @@
 use Rattle.std.specs.Prelude.{◌≡◌, ◌==◌, ℕ, ℤ, ◌^◌, ◌<◌, List, ◌∷◌, ◌++◌, Option, codes}
 use Rattle.std.specs.List.{after_first, before_first}
 use Rattle.std.specs.Str.Parse.{IsNumeral, without_leading_plus, digits_value}
-use Rattle.space.specs.Lines.{Read, Writes}
+use Rattle.space.specs.Lines.{Parsed, Writes}
 use Rattle.picture.specs.declared.answer.AnswerLine.{AnswerLine}
 use Rattle.picture.specs.declared.answer.AnswerLine.TheVariants as answer
 use Rattle.picture.specs.declared.row.DrawnRow.{DrawnRow}
@@ -42,7 +42,7 @@ pub record RowFields (bs : List ℕ) (n : ℕ) (r : DrawnRow) : Type 0 where
 -- The bytes write the number of a line, and after a comma the value, if there is one; what follows a further comma is not read.
 pub record AcceptedFields (bs : List ℕ) (l : ℕ) (v : Option ℕ) : Type 0 where
   pub line : WritesNumber (before_first (λ b. b == 44) bs) l
-  pub value : Read WritesNumber (before_first (λ b. b == 44) (after_first (λ b. b == 44) bs)) v
+  pub value : Parsed WritesNumber (before_first (λ b. b == 44) (after_first (λ b. b == 44) bs)) v
 
 -- The bytes are a word and what holds of the rest.
 pub record After (word bs : List ℕ) (P : List ℕ → Type 0) : Type 0 where

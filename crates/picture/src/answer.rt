@@ -2,7 +2,7 @@
 ghost use Rattle.std.specs.Prelude.{◌≡◌, ◌≢◌, ◌==◌, ◌++◌, ℕ, ℤ, List, Option, MatchOption};
 ghost use Rattle.std.specs.List.{after_first, before_first};
 ghost use Rattle.std.specs.Result.{result_ok};
-ghost use Rattle.space.specs.Lines.{Read, Writes};
+ghost use Rattle.space.specs.Lines.{Parsed, Writes};
 ghost use Rattle.picture.specs.declared.row.DrawnRow.{DrawnRow};
 ghost use Rattle.picture.specs.AnswerLine.{AcceptedFields, NumberFirst, RowFields, Says, SignedFirst, WritesNumber};
 
@@ -29,7 +29,7 @@ pub struct ParseAnswerLineError;
 
 /// The number that a text writes.
 fn number_of(text: &str) -> Option<u64>
-    ensures { Read WritesNumber text.now result }
+    ensures { Parsed WritesNumber text.now result }
 {
     text.parse::<u64>().ok()
 }
@@ -58,7 +58,7 @@ fn signed_first(text: &str) -> Option<(i32, &str)>
 
 /// The number that a text writes, with a minus or without.
 fn signed_of(text: &str) -> Option<i32>
-    ensures { Read Writes text.now result }
+    ensures { Parsed Writes text.now result }
 {
     text.parse::<i32>().ok()
 }
@@ -122,7 +122,7 @@ fn after<'a>(text: &'a str, word: &str) -> Option<&'a str>
 impl FromStr for AnswerLine {
     type Err = ParseAnswerLineError;
 
-    ghost from_str_gives = { λ text answer. Read Says text (result_ok answer) };
+    ghost from_str_gives = { λ text answer. Parsed Says text (result_ok answer) };
 
     fn from_str(text: &str) -> Result<AnswerLine, ParseAnswerLineError> {
         if let Some(rest) = after(text, "N,") {

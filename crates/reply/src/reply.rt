@@ -1,4 +1,4 @@
-use net_laws::{Reach, Worst};
+use net_laws::{PinPath, Worst};
 
 /// What an accepted line answers.
 #[derive(Clone, Copy, Debug, PartialEq, Eq)]
@@ -6,7 +6,7 @@ pub enum Reply {
     /// One number: 0 for W, A and U.
     Number(u64),
     /// K: a pin's path, and its direct distance.
-    Path(Reach),
+    Path(PinPath),
     /// X: the worst sink, and its figure.
     Worst(Worst),
     /// T: as many rows of the tree, each on a line of its own before the last.

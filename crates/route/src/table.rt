@@ -1,5 +1,5 @@
 // The rows of a tree, and what it says of pins.
-use net::{Joining, Net, Reach, Row, Space, Spot};
+use net::{Joining, Net, PinPath, Row, Space, Spot};
 use std::io;
 
 /// The wire of the net's tree: the sum of its rows' lengths, 0 where there is no tree.
@@ -53,7 +53,7 @@ pub fn print_pins<S: Space>(rt: &HostRuntime, net: &Net<S>) -> io::Result<()> {
         .map_while(|k| net.path(k).ok())
         .enumerate()
     {
-        let Reach { path, direct } = reach;
+        let PinPath { path, direct } = reach;
         println!(rt; "  {k:>5}  {direct:>9}  {path:>9}")?;
     }
     Ok(())

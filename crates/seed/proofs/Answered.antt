@@ -6,10 +6,10 @@ use Rattle.seed.specs.declared.store.Seed.{Seed}
 use Rattle.seed.specs.declared.store.SeedFault.{SeedFault}
 use Rattle.seed.specs.declared.store.SeedFault.TheVariants as fault
 use Rattle.seed.specs.declared.store.TheConstants.{NODES}
-use Rattle.seed.specs.Seeds.{Asked, Inside, OneMore, Restarted}
+use Rattle.seed.specs.Seeds.{EdgeAsked, Inside, OneMore, Restarted}
 
 -- an edge between nodes that are not joined is taken
-pub join_taken : (s t : Seed) (a b l : ℕ) (r : Result (Unit {0}) SeedFault) → Asked s a b l r t → Inside s a b → (Joined s.edges a b → ⊥) → 0 < l → l ≤ LONGEST →
+pub join_taken : (s t : Seed) (a b l : ℕ) (r : Result (Unit {0}) SeedFault) → EdgeAsked s a b l r t → Inside s a b → (Joined s.edges a b → ⊥) → 0 < l → l ≤ LONGEST →
     (is_ok r ≡ true) × OneMore s (edge a b l) t
 join_taken s t a b l (Ok x) h i n p q = (refl, h.3)
 join_taken s t a b l (Err fault.Outside) h i n p q = absurd (h.0 i)
@@ -24,7 +24,7 @@ join_taken s t a b l (Err fault.Short) h i n p q = absurd (zero l p h.1)
     zero l p e = omega arith
 
 -- a refused edge leaves the seed as it was
-pub join_refused : (s t : Seed) (a b l : ℕ) (r : Result (Unit {0}) SeedFault) → Asked s a b l r t → is_ok r ≡ false → t ≡ s
+pub join_refused : (s t : Seed) (a b l : ℕ) (r : Result (Unit {0}) SeedFault) → EdgeAsked s a b l r t → is_ok r ≡ false → t ≡ s
 join_refused s t a b l (Ok x) h e = absurd (clash e)
   where
     clash : true ≡ false → ⊥

@@ -28,12 +28,12 @@ abbrev pub OneMore : (s : Seed) → Edge → (t : Seed) → Type 0
 OneMore s e t = (t.edges ≡ s.edges ++ e ∷ []) × (t.nodes ≡ s.nodes)
 
 -- The seed s, asked for an edge of length l between a and b, answers r and is t then.
-abbrev pub Asked : (s : Seed) (a b l : ℕ) → Result (Unit {0}) SeedFault → (t : Seed) → Type 0
-Asked s a b l (Ok x) t = Apart s a b × (0 < l) × (l ≤ LONGEST) × OneMore s (edge a b l) t
-Asked s a b l (Err fault.Outside) t = (Inside s a b → ⊥) × (t ≡ s)
-Asked s a b l (Err fault.Joined) t = Inside s a b × Joined s.edges a b × (t ≡ s)
-Asked s a b l (Err fault.Short) t = Apart s a b × (l ≡ 0) × (t ≡ s)
-Asked s a b l (Err fault.Long) t = Apart s a b × (LONGEST < l) × (t ≡ s)
+abbrev pub EdgeAsked : (s : Seed) (a b l : ℕ) → Result (Unit {0}) SeedFault → (t : Seed) → Type 0
+EdgeAsked s a b l (Ok x) t = Apart s a b × (0 < l) × (l ≤ LONGEST) × OneMore s (edge a b l) t
+EdgeAsked s a b l (Err fault.Outside) t = (Inside s a b → ⊥) × (t ≡ s)
+EdgeAsked s a b l (Err fault.Joined) t = Inside s a b × Joined s.edges a b × (t ≡ s)
+EdgeAsked s a b l (Err fault.Short) t = Apart s a b × (l ≡ 0) × (t ≡ s)
+EdgeAsked s a b l (Err fault.Long) t = Apart s a b × (LONGEST < l) × (t ≡ s)
 
 -- The seed s, asked to start again with n nodes, answers r and is t then.
 abbrev pub Restarted : (s : Seed) (n : ℕ) → Result (Unit {0}) SeedFault → (t : Seed) → Type 0
@@ -44,6 +44,6 @@ Restarted s n (Err fault.Short) t = ⊥
 Restarted s n (Err fault.Long) t = ⊥
 
 -- The seed s, asked for one more node, answers r and is t then.
-abbrev pub Added : (s : Seed) → Option ℕ → (t : Seed) → Type 0
-Added s None t = (s.nodes ≡ NODES) × (t ≡ s)
-Added s (Some v) t = (s.nodes < NODES) × (v ≡ s.nodes) × (t.nodes ≡ v + 1) × (t.edges ≡ s.edges)
+abbrev pub NodeAdded : (s : Seed) → Option ℕ → (t : Seed) → Type 0
+NodeAdded s None t = (s.nodes ≡ NODES) × (t ≡ s)
+NodeAdded s (Some v) t = (s.nodes < NODES) × (v ≡ s.nodes) × (t.nodes ≡ v + 1) × (t.edges ≡ s.edges)

@@ -63,7 +63,7 @@ impl Model for Seed {
 }
 
 impl Seed {
-    ghost use Rattle.seed.specs.Seeds.{Added, Asked, Inside, OneMore, Restarted};
+    ghost use Rattle.seed.specs.Seeds.{NodeAdded, EdgeAsked, Inside, OneMore, Restarted};
 
     /// A seed without nodes. All memory that it will ever use is reserved here.
     pub fn new(heap: Global) -> Result<Seed, AllocError>
@@ -77,7 +77,7 @@ impl Seed {
 
     /// Adds a node and answers its number; `None` where there are `NODES` nodes.
     pub fn add_node(&mut self) -> Option<usize>
-        ensures { Added self.old result self.new }
+        ensures { NodeAdded self.old result self.new }
     {
         let node = self.nodes();
         if node >= NODES {
@@ -90,7 +90,7 @@ impl Seed {
     /// Takes an edge of `length` between `a` and `b`. Refused, with the seed as it was: first where a number is no node, then where
     /// the ends are joined already, then where the length is 0, then where it is above `LONGEST`. Costs a pass over the nodes.
     pub fn join(&mut self, a: usize, b: usize, length: u64) -> Result<(), SeedFault>
-        ensures { Asked self.old a b length result self.new }
+        ensures { EdgeAsked self.old a b length result self.new }
     {
         if a >= self.nodes() || b >= self.nodes() {
             return Err(SeedFault::Outside);

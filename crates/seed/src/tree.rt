@@ -1,7 +1,7 @@
 ghost use Rattle.std.specs.Prelude.{◌≡◌, ℕ, ◌+◌, ◌<◌, ◌↔◌, length, IfSome, IsSome, OnSome};
 ghost use Rattle.forest.specs.Edges.{Joined};
 ghost use Rattle.forest.specs.Growth.{Planted};
-ghost use Rattle.forest.specs.Paths.{Tree};
+ghost use Rattle.forest.specs.Paths.{IsTree};
 
 use crate::store::Seed;
 
@@ -19,7 +19,7 @@ impl Seed {
         ensures test { IsSome result ↔ (length self.now.edges + 1 ≡ self.now.nodes) }
         ensures same { IfSome result (λ t. t.seed.now ≡ self.now) }
         ensures hangs { OnSome result ((v : ℕ) → v < self.now.nodes → Joined self.now.edges 0 v) }
-        ensures paths { OnSome result (Tree self.now.nodes self.now.edges) }
+        ensures paths { OnSome result (IsTree self.now.nodes self.now.edges) }
         ensures planted { OnSome result (Planted self.now.nodes self.now.edges) }
     {
         if self.count() + 1 != self.nodes() {

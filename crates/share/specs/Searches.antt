@@ -3,13 +3,13 @@ use Rattle.std.specs.Prelude.{◌≡◌, ℕ}
 use Rattle.space.specs.declared.Space.{Ghosts}
 use Rattle.space.specs.declared.Joining.{Ghosts as JoinGhosts}
 use Rattle.tree_laws.specs.declared.share.Share.{Share}
-use Rattle.tree_laws.specs.Distances.{join_of, reach_of}
+use Rattle.space.specs.Totals.{meet_or_start, capped_distance}
 use Rattle.tree_laws.specs.Shares.{ShareMove}
 use Rattle.share.specs.declared.sharing.ShareSearch.{ShareSearch}
 
 -- A move of the table that is searched.
 abbrev pub MoveIn : {X : Type 0} → Ghosts X → JoinGhosts X → ShareSearch X → Share → Type 0
-MoveIn G J q = ShareMove q.table.now.rows (reach_of G q.space.now) (join_of G J q.space.now)
+MoveIn G J q = ShareMove q.table.now.rows (capped_distance G q.space.now) (meet_or_start G J q.space.now)
 
 -- A move of a and b.
 abbrev pub MoveAt : {X : Type 0} → Ghosts X → JoinGhosts X → ShareSearch X → (a b : ℕ) → Share → Type 0

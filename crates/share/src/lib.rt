@@ -5,6 +5,6 @@
 mod meeting;
 mod sharing;
 
-pub use meeting::{hangs, insert_meet, join};
+pub use meeting::{hangs, insert_meet};
 pub use sharing::{ShareFault, share_best};
 pub use tree_laws::Share;

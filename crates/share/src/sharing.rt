@@ -3,11 +3,11 @@ ghost use Rattle.tree_laws.specs.Shares.{share_before};
 ghost use Rattle.share.specs.Searches.{MoveAt, MoveIn};
 ghost use Rattle.share.specs.Shares.{Shared};
 
-use crate::meeting::{insert_meet, join};
+use crate::meeting::insert_meet;
 use search::first_of_pairs;
-use space::Joining;
+use space::{Joining, capped_distance, meet_or_start};
 use thiserror::Error;
-use tree::{Table, reach};
+use tree::Tree;
 use tree_laws::Share;
 
 /// Why no share move was made.
@@ -25,7 +25,7 @@ pub enum ShareFault {
 #[derive(Drop)]
 struct ShareSearch<'a, S: Joining> {
     space: &'a S,
-    table: &'a Table,
+    table: &'a Tree,
 }
 
 impl<'a, S: Joining> ShareSearch<'a, S> {
@@ -46,8 +46,8 @@ impl<'a, S: Joining> ShareSearch<'a, S> {
             return None;
         }
         let from = self.table.at(v).spot;
-        let z = join(self.space, from, one.spot, two.spot);
-        let saving = reach(self.space, from, z);
+        let z = meet_or_start(self.space, from, one.spot, two.spot);
+        let saving = capped_distance(self.space, from, z);
         if saving == 0 {
             return None;
         }
@@ -65,7 +65,7 @@ impl<'a, S: Joining> ShareSearch<'a, S> {
 
 /// Makes the best share move and answers what it saves; the table stays as it was where no move saves 1 or more, and where there is no
 /// room for another row.
-pub fn share_best<S: Joining>(space: &S, table: &mut Table) -> Result<u64, ShareFault>
+pub fn share_best<S: Joining>(space: &S, table: &mut Tree) -> Result<u64, ShareFault>
     ensures { Shared S.Space S.Joining.own space.now table.old result table.new }
 {
     let search = ShareSearch {

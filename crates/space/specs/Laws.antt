@@ -7,10 +7,6 @@ abbrev pub answered : {X : Type 0} → Bool → X → Option X
 answered true x = Some x
 answered false x = None
 
--- The laws are owed by every space that is at most this wide.
-abbrev pub limit : ℕ
-limit = 100000000
-
 -- Distances are those of a metric, but that two different spots may be 0 apart.
 pub record Metric (admitted : Spot → Bool) (width : ℕ) (between : Spot → Spot → ℕ) : Type 0 where
   pub itself : (a : Spot) → admitted a ≡ true → between a a ≡ 0

@@ -25,6 +25,6 @@ pub record SpotLine (bs : List ℕ) (s : Spot) : Type 0 where
   pub numbers : Numbers first second third s
 
 -- The answer of a reader: what the bytes stand for, and nothing exactly when they stand for nothing.
-abbrev pub Read : {X : Type 0} → (List ℕ → X → Type 0) → List ℕ → Option X → Type 0
-Read {X} Means bs None = (x : X) → Means bs x → ⊥
-Read Means bs (Some x) = Means bs x
+abbrev pub Parsed : {X : Type 0} → (List ℕ → X → Type 0) → List ℕ → Option X → Type 0
+Parsed {X} Means bs None = (x : X) → Means bs x → ⊥
+Parsed Means bs (Some x) = Means bs x

@@ -5,7 +5,8 @@
 
 ghost use Rattle.std.specs.Prelude.{◌≡◌, ℕ, ◌≤◌, Bool, ◌&&◌};
 ghost use Rattle.space.specs.declared.spot.Spot.{Spot};
-ghost use Rattle.space.specs.Laws.{answered, limit, Metric, Meets};
+ghost use Rattle.space.specs.Laws.{answered, Metric, Meets};
+ghost use Rattle.space.specs.declared.TheConstants.{LONGEST};
 
 pub mod spot;
 mod total;
@@ -37,7 +38,7 @@ pub trait Space {
     fn distance(&self, a: Spot, b: Spot) -> Option<u64>
         ensures { result ≡ answered (admitted self.now a && admitted self.now b) (between self.now a b) };
 
-    ghost metric: { (s : Self) → width s ≤ limit → Metric (admitted s) (width s) (between s) };
+    ghost metric: { (s : Self) → width s ≤ LONGEST → Metric (admitted s) (width s) (between s) };
 }
 
 /// A wiring space in which wires can be joined: `meeting o a b` is the spot where the paths from o to a and to b part. The law `meets` is owed
@@ -49,5 +50,5 @@ pub trait Joining: Space {
     fn meet(&self, o: Spot, a: Spot, b: Spot) -> Option<Spot>
         ensures { result ≡ answered (Self.Space.admitted self.now o && Self.Space.admitted self.now a && Self.Space.admitted self.now b) (meeting self.now o a b) };
 
-    ghost meets: { (s : Self) → Self.Space.width s ≤ limit → Meets (Self.Space.admitted s) (Self.Space.between s) (meeting s) };
+    ghost meets: { (s : Self) → Self.Space.width s ≤ LONGEST → Meets (Self.Space.admitted s) (Self.Space.between s) (meeting s) };
 }

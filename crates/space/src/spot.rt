@@ -1,6 +1,6 @@
 ghost use Rattle.std.specs.Prelude.{◌≡◌, Some};
 ghost use Rattle.std.specs.Result.{result_ok};
-ghost use Rattle.space.specs.Lines.{Read, SpotLine};
+ghost use Rattle.space.specs.Lines.{Parsed, SpotLine};
 ghost use Rattle.space.specs.Spots.{spot_at_level, spot_of, spot_text};
 
 use std::fmt;
@@ -54,7 +54,7 @@ impl From<ParseIntError> for ParseSpotError {
 impl FromStr for Spot {
     type Err = ParseSpotError;
 
-    ghost from_str_gives = { λ line answer. Read SpotLine line (result_ok answer) };
+    ghost from_str_gives = { λ line answer. Parsed SpotLine line (result_ok answer) };
 
     fn from_str(line: &str) -> Result<Spot, ParseSpotError> {
         let (first, rest) = line.split_once(',').ok_or(ParseSpotError)?;

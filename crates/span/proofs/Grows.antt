@@ -12,7 +12,7 @@ use Rattle.forest.specs.declared.Edge.{Edge}
 use Rattle.forest.proofs.Accepted.{Accepted, accepted}
 use Rattle.forest.proofs.Chains.{joined_on}
 use Rattle.forest.proofs.Trails.{tree}
-use Rattle.seed.specs.Seeds.{Asked, Inside, OneMore}
+use Rattle.seed.specs.Seeds.{EdgeAsked, Inside, OneMore}
 use Rattle.seed.specs.declared.store.SeedFault.{SeedFault}
 use Rattle.seed.specs.declared.store.Seed.{Seed}
 use Rattle.seed.proofs.Answered.{join_taken}
@@ -21,7 +21,7 @@ use Rattle.space.specs.declared.Space.{Ghosts}
 use Rattle.space.specs.declared.spot.Spot.{Spot}
 use Rattle.span.specs.Grown.{Growing, Spanned}
 use Rattle.space.specs.Spots.{spot_of}
-use Rattle.span.specs.Lengths.{Pinned, distance_of, lengths}
+use Rattle.span.specs.Lengths.{Pinned, pin_distance, lengths}
 use Rattle.span_laws.specs.Spanning.{FirstPair, Steps}
 use Rattle.span.specs.Growth.{Alone, Firsts, elsewhere, fan, offered}
 use Rattle.span.proofs.Firsts.{alone_more, alone_none, first_pair, firsts_more, firsts_none, firsts_start}
@@ -51,7 +51,7 @@ step_none n d t F e g h =
     omega (arith, firsts_none n d t.edges (seed_accepted n t g.nodes) (omega arith) (subst P e g.firsts))
 
 -- one step: the first of the firsts is taken as an edge
-module _ (n : ℕ) (d : ℕ → ℕ → ℕ) (fair : Fair d) (t u : Seed) (F : List Link) (g : Growing n d t F) (w : Link) (f : First link_before F w) (r : Result (Unit {0}) SeedFault) (asked : Asked t w.u w.v w.length r u) where
+module _ (n : ℕ) (d : ℕ → ℕ → ℕ) (fair : Fair d) (t u : Seed) (F : List Link) (g : Growing n d t F) (w : Link) (f : First link_before F w) (r : Result (Unit {0}) SeedFault) (asked : EdgeAsked t w.u w.v w.length r u) where
   found : FirstPair n d t.edges w
   found = first_pair n d t.edges F g.firsts w f
 
@@ -84,11 +84,11 @@ module _ {X : Type 0} (G : Ghosts X) (s : X) (pins : List Spot) (m : Metric (G.a
   uncut x k true e h l n = omega arith
   uncut x k false e h l n = let z : ◌≡◌ {A = ℕ} 0 1 = cc in absurd (omega arith)
 
-  pub lengths_measured : (u v : ℕ) → u < length pins → v < length pins → (u ≡ v → ⊥) → lengths G s pins u v ≡ distance_of G s pins u v
+  pub lengths_measured : (u v : ℕ) → u < length pins → v < length pins → (u ≡ v → ⊥) → lengths G s pins u v ≡ pin_distance G s pins u v
   lengths_measured u v h k ne =
       let a = p.admitted u h in
       let b = p.admitted v k in
-      uncut (distance_of G s pins u v) (G.width s) _ (and_from _ _ a b) (p.apart u v h k ne) (m.within (spot_of pins u) (spot_of pins v) a b) p.narrow
+      uncut (pin_distance G s pins u v) (G.width s) _ (and_from _ _ a b) (p.apart u v h k ne) (m.within (spot_of pins u) (spot_of pins v) a b) p.narrow
 
 pub spans : {X : Type 0} (G : Ghosts X) (s : X) → ((_ : G.width s ≤ LONGEST) → Metric (G.admitted s) (G.width s) (G.between s)) → (pins : List Spot) (t : Seed) (F : List Link) (w : ℕ) → 0 < length pins → length pins ≤ NODES → Growing (length pins) (lengths G s pins) t F → length t.edges + 1 ≡ length pins → w ≡ wire t.edges → Spanned G s pins w t
 spans G s law pins t F w some few g e wired =
@@ -100,7 +100,7 @@ spans G s law pins t F w some few g e wired =
       nodes = g.nodes;
       cut = cut;
       only = λ E s'. spanning_only n (lengths G s pins) E t.edges s' cut;
-      measured = λ p. spanning_agrees n (lengths G s pins) (distance_of G s pins) (lengths_measured G s pins (law p.narrow) p) t.edges cut;
+      measured = λ p. spanning_agrees n (lengths G s pins) (pin_distance G s pins) (lengths_measured G s pins (law p.narrow) p) t.edges cut;
       tree = tree (seed_accepted n t g.nodes) e;
       wired = wired;
     }

@@ -3,15 +3,15 @@ use Rattle.std.specs.Prelude.{◌≡◌, ℕ, ◌<◌, ◌≤◌, ◌⊎◌, Lis
 use Rattle.seed.specs.declared.store.TheConstants.{NODES}
 use Rattle.span_laws.specs.declared.link.Link.{Link}
 use Rattle.forest.specs.Edges.{wire}
-use Rattle.forest.specs.Paths.{Tree}
+use Rattle.forest.specs.Paths.{IsTree}
 use Rattle.forest.specs.declared.Edge.{Edge}
 use Rattle.seed.specs.declared.store.SeedFault.{SeedFault}
 use Rattle.seed.specs.declared.store.SeedFault.TheVariants as fault
 use Rattle.seed.specs.declared.store.Seed.{Seed}
 use Rattle.space.specs.declared.Space.{Ghosts}
 use Rattle.space.specs.declared.spot.Spot.{Spot}
-use Rattle.span.specs.Lengths.{Pinned, distance_of, lengths}
-use Rattle.span_laws.specs.Spanning.{Spanning, Steps}
+use Rattle.span.specs.Lengths.{Pinned, pin_distance, lengths}
+use Rattle.span_laws.specs.Spanning.{SpanningSeed, Steps}
 use Rattle.span.specs.Growth.{Alone, Firsts}
 
 -- The seed t is the spanning seed of the pins, and w its wire. The lengths are the space's distances wherever the pins are such as
@@ -20,10 +20,10 @@ pub record Spanned {X : Type 0} (G : Ghosts X) (s : X) (pins : List Spot) (w : �
   pub some : 0 < length pins
   pub few : length pins ≤ NODES
   pub nodes : t.nodes ≡ length pins
-  pub cut : Spanning (length pins) (lengths G s pins) t.edges
-  pub only : (E : List Edge) → Spanning (length pins) (lengths G s pins) E → E ≡ t.edges
-  pub measured : Pinned G s pins → Spanning (length pins) (distance_of G s pins) t.edges
-  pub tree : Tree (length pins) t.edges
+  pub cut : SpanningSeed (length pins) (lengths G s pins) t.edges
+  pub only : (E : List Edge) → SpanningSeed (length pins) (lengths G s pins) E → E ≡ t.edges
+  pub measured : Pinned G s pins → SpanningSeed (length pins) (pin_distance G s pins) t.edges
+  pub tree : IsTree (length pins) t.edges
   pub wired : w ≡ wire t.edges
 
 -- Asked for the spanning seed of the pins in place of the seed t₀, the answer is r, and the seed is t then.

@@ -7,4 +7,3 @@ mod links;
 mod pins;
 
 pub use growing::Spanner;
-pub use pins::length_between;

@@ -5,7 +5,7 @@ use Rattle.std.proofs.lemmas.Bool.{cases_lt}
 use Rattle.forest.specs.Edges.{Joined}
 use Rattle.forest.specs.declared.Edge.{Edge}
 use Rattle.span_laws.specs.LinkOrder.{link_order}
-use Rattle.span_laws.specs.Spanning.{FirstPair, Pair, Spanning, Steps, link_of}
+use Rattle.span_laws.specs.Spanning.{FirstPair, Pair, SpanningSeed, Steps, link_of}
 use Rattle.span_laws.specs.declared.link.Link.{Link}
 
 -- ---- the steps so far
@@ -30,7 +30,7 @@ steps_more n d E e s f i x h =
     rw (p, q) f)
     (cases_lt i (length E))
 
-pub spanning : (n : ℕ) (d : ℕ → ℕ → ℕ) (E : List Edge) → Steps n d E → length E + 1 ≡ n → Spanning n d E
+pub spanning : (n : ℕ) (d : ℕ → ℕ → ℕ) (E : List Edge) → Steps n d E → length E + 1 ≡ n → SpanningSeed n d E
 spanning n d E s e = record { steps = s; whole = e }
 
 -- ---- another way to measure that gives the same distances of different pins
@@ -42,7 +42,7 @@ module _ (n : ℕ) (d t : ℕ → ℕ → ℕ) (agree : (u v : ℕ) → u < n �
       let ne : x.u ≡ x.v → ⊥ = λ e. p.outside (subst P e p.inside) in
       record { inner = p.inner; inside = p.inside; outer = p.outer; outside = p.outside; long = p.long ∙ agree x.u x.v p.inner p.outer ne }
 
-  pub spanning_agrees : (E : List Edge) → Spanning n d E → Spanning n t E
+  pub spanning_agrees : (E : List Edge) → SpanningSeed n d E → SpanningSeed n t E
   spanning_agrees E s = record {
     steps = λ i x h.
         let f = s.steps i x h in
@@ -76,7 +76,7 @@ fronts_agree n d E D z s t e (suc i) h =
     ap (λ k. take k E) (sym (add-one i)) ∙ take_more E i z le ∙ ap (λ F. F ++ get_or E i z ∷ []) before
     ∙ ap (λ x. take i D ++ x ∷ []) same-edge ∙ sym (take_more D i z (omega arith)) ∙ ap (λ k. take k D) (add-one i)
 
-pub spanning_only : (n : ℕ) (d : ℕ → ℕ → ℕ) (E D : List Edge) → Spanning n d E → Spanning n d D → E ≡ D
+pub spanning_only : (n : ℕ) (d : ℕ → ℕ → ℕ) (E D : List Edge) → SpanningSeed n d E → SpanningSeed n d D → E ≡ D
 spanning_only n d E D s t =
     let same_length : length E ≡ length D = omega (arith, s.whole, t.whole) in
     let z : Edge = record { a = 0; b = 0; length = 0 } in

@@ -31,6 +31,6 @@ abbrev pub Steps : (n : ℕ) (d : ℕ → ℕ → ℕ) → List Edge → Type 0
 Steps n d E = (i : ℕ) (x : Edge) → i < length E → FirstPair n d (take i E) (link_of (slice_index_or E i x))
 
 -- The edges E are the spanning seed of n pins: each is the first of all pairs at its step, and they are one fewer than the pins.
-pub record Spanning (n : ℕ) (d : ℕ → ℕ → ℕ) (E : List Edge) : Type 0 where
+pub record SpanningSeed (n : ℕ) (d : ℕ → ℕ → ℕ) (E : List Edge) : Type 0 where
   pub steps : Steps n d E
   pub whole : length E + 1 ≡ n

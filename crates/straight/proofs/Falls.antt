@@ -3,8 +3,8 @@ use Rattle.std.proofs.Common.{◌≡◌, ℕ, ◌<◌, false, List, Some, Option
 use Rattle.space.specs.declared.spot.Spot.{Spot}
 use Rattle.forest.specs.declared.Edge.{Edge}
 use Rattle.forest.specs.Edges.{Sound}
-use Rattle.walk_laws.specs.Walk.{Mark, Rules, Table}
-use Rattle.walk_laws.specs.Promise.{Branch, Hangs, Spanning}
+use Rattle.walk_laws.specs.Walk.{Mark, Rules, Marks}
+use Rattle.walk_laws.specs.Promise.{Branch, HangsOnNeighbour, RootedTree}
 use Rattle.walk_laws.proofs.Keeps.{ends_below, first_below}
 use Rattle.walk_laws.proofs.Planting.{branch_length, planted_spans}
 use Rattle.walk.specs.Walked.{Walked}
@@ -12,11 +12,11 @@ use Rattle.build_laws.specs.Straight.{Straight, straight}
 use Rattle.build_laws.proofs.Building.{straight_of}
 use Rattle.straight.specs.Laying.{Falling, height}
 
-module _ (R : Rules) (n : ℕ) (E : List Edge) (S : Table) (s : Sound n E) (q : 0 < R.q) (w : Walked R n E S) where
-  abbrev spans : Spanning n w.planted.rank w.planted.forest
+module _ (R : Rules) (n : ℕ) (E : List Edge) (S : Marks) (s : Sound n E) (q : 0 < R.q) (w : Walked R n E S) where
+  abbrev spans : RootedTree n w.planted.rank w.planted.forest
   spans = planted_spans n E s w.planted
 
-  hung : (v : ℕ) → v < n → (v ≡ 0 → ⊥) → (S v).broken ≡ false → (e : ℕ) × ((S v).est ≡ Some e) × Hangs w.planted.forest S v e
+  hung : (v : ℕ) → v < n → (v ≡ 0 → ⊥) → (S v).broken ≡ false → (e : ℕ) × ((S v).est ≡ Some e) × HangsOnNeighbour w.planted.forest S v e
   hung v h nz b = let t = w.keeps.told v h in (t.0, t.1, w.keeps.hangs v t.0 h nz b t.1)
 
   pub walked_falls : Falling n S

@@ -6,12 +6,12 @@ use Rattle.space.specs.declared.TheConstants.{LONGEST}
 use Rattle.order.specs.Firsts.{Among}
 use Rattle.order.proofs.Finding.{among_either, among_none, among_one}
 use Rattle.space.specs.declared.spot.Spot.{Spot}
-use Rattle.walk_laws.specs.Walk.{Rules, Table}
+use Rattle.walk_laws.specs.Walk.{Rules, Marks}
 use Rattle.tree_laws.specs.declared.Row.{Row}
-use Rattle.tree_laws.specs.Trees.{Hangs, Tree, Way, blank, up}
-use Rattle.tree_laws.specs.Trees.Way.{home, down}
+use Rattle.tree_laws.specs.Trees.{MayHang, RowTree, RowWay, blank, up}
+use Rattle.tree_laws.specs.Trees.RowWay.{home, down}
 use Rattle.tree_laws.proofs.Ways.{off_under, placed, way_only}
-use Rattle.tree.specs.declared.table.Table.{Table as Tree-table}
+use Rattle.tree.specs.declared.table.Tree.{Tree as Tree-table}
 use Rattle.tree.specs.Tables.{Changed}
 use Rattle.tree.specs.declared.table.HangFault.{HangFault}
 use Rattle.std.specs.Result.{result_ok}
@@ -26,7 +26,7 @@ same_row u u' z z' l l' p q r =
 
 -- ---- the row of a node in the straight tree
 
-module _ (R : Rules) (S : Table) (place : ℕ → Spot) (v : ℕ) (nz : v ≡ 0 → ⊥) where
+module _ (R : Rules) (S : Marks) (place : ℕ → Spot) (v : ℕ) (nz : v ≡ 0 → ⊥) where
   pub row_broken : (S v).broken ≡ true → star_row R.direct place v ≡ straight_row R S place v
   row_broken b =
       same_row 0 (cond (eqb v 0 || (S v).broken) 0 (S v).parent) (place v) (place v) (R.direct v) (cond (eqb v 0) 0 (cond (S v).broken (R.direct v) (S v).edge))
@@ -44,13 +44,13 @@ module _ (R : Rules) (S : Table) (place : ℕ → Spot) (v : ℕ) (nz : v ≡ 0 
 -- ---- all rows on the driver
 
 -- a row that can be hung is not refused
-pub hung_ok : (s : Tree-table) (v u l : ℕ) (r : Result (Unit {0}) HangFault) (t : Tree-table) → Changed s v u l r t → Hangs s.rows v u → l ≤ LONGEST → result_ok r ≡ None → ⊥
+pub hung_ok : (s : Tree-table) (v u l : ℕ) (r : Result (Unit {0}) HangFault) (t : Tree-table) → Changed s v u l r t → MayHang s.rows v u → l ≤ LONGEST → result_ok r ≡ None → ⊥
 hung_ok s v u l (Ok x) t c h k e = cc
 hung_ok s v u l (Err f) t c h k e = c.0 h k
 
 -- ---- one more row laid
 
-module _ (R : Rules) (S : Table) (place : ℕ → Spot) (n i : ℕ) (rows : List Row) (f : Falling n S) (one : 1 ≤ i) (l : Laying R S place n i rows) where
+module _ (R : Rules) (S : Marks) (place : ℕ → Spot) (n i : ℕ) (rows : List Row) (f : Falling n S) (one : 1 ≤ i) (l : Laying R S place n i rows) where
   up_hung : (k : ℕ) → k < n → k < i → (k ≡ 0 → ⊥) → (S k).broken ≡ false → up rows k ≡ (S k).parent
   up_hung k h m nz b = ap (λ (r : Row). r.parent) (l.done k h m ∙ sym (row_hung R S place k nz b))
 
@@ -74,14 +74,14 @@ module _ (R : Rules) (S : Table) (place : ℕ → Spot) (n i : ℕ) (rows : List
       (λ (m : i ≤ k). inl (up_rest k h m))
       (cases_lt k i)
 
-  driver_alone : {k : ℕ} {ns : List ℕ} → Way rows k ns → k ≡ 0 → (x : ℕ) → Among x ns → x ≡ 0
+  driver_alone : {k : ℕ} {ns : List ℕ} → RowWay rows k ns → k ≡ 0 → (x : ℕ) → Among x ns → x ≡ 0
   driver_alone {k} {ns} w e x a =
-      let P : ℕ → Type 0 = λ z. Way rows z ns in
+      let P : ℕ → Type 0 = λ z. RowWay rows z ns in
       let Q : List ℕ → Type 0 = λ xs. Among x xs in
       among_one (subst Q (way_only (subst P e w) home) a)
 
   -- the estimates do not grow on the way up to the driver
-  way_falls : {k : ℕ} {ns : List ℕ} → Way rows k ns → k < n → (x : ℕ) → Among x ns → (x ≡ 0) ⊎ (height S x ≤ height S k)
+  way_falls : {k : ℕ} {ns : List ℕ} → RowWay rows k ns → k < n → (x : ℕ) → Among x ns → (x ≡ 0) ⊎ (height S x ≤ height S k)
   way_falls home h x a = inl (among_one a)
   way_falls (down {k} {ns} nz w) h x a =
       ⊎_elim
@@ -98,7 +98,7 @@ module _ (R : Rules) (S : Table) (place : ℕ → Spot) (n i : ℕ) (rows : List
       (among_either ns (k ∷ []) a)
 
   -- so a node can be hung on its parent from the walk
-  pub can_hang : Tree rows → (v : ℕ) → v < n → (v ≡ 0 → ⊥) → (S v).broken ≡ false → Hangs rows v (S v).parent
+  pub can_hang : RowTree rows → (v : ℕ) → v < n → (v ≡ 0 → ⊥) → (S v).broken ≡ false → MayHang rows v (S v).parent
   can_hang t v h nz b =
       let u = (S v).parent in
       let below : u < n = f.parent v h nz b in
@@ -112,7 +112,7 @@ module _ (R : Rules) (S : Table) (place : ℕ → Spot) (n i : ℕ) (rows : List
 
 -- ---- all rows laid
 
-pub laid_straight : (R R' : Rules) (S : Table) (place : ℕ → Spot) (n : ℕ) (rows : List Row) → ((k : ℕ) → R.direct k ≡ R'.direct k) → Laying R S place n n rows → rows ≡ straight R' S place n
+pub laid_straight : (R R' : Rules) (S : Marks) (place : ℕ → Spot) (n : ℕ) (rows : List Row) → ((k : ℕ) → R.direct k ≡ R'.direct k) → Laying R S place n n rows → rows ≡ straight R' S place n
 laid_straight R R' S place n rows e l =
     let count = straight_length R' S place n in
     ext_get_or blank rows (straight R' S place n) (l.count ∙ sym count)
@@ -125,7 +125,7 @@ laid_straight R R' S place n rows e l =
 -- ---- the breakpoints
 
 -- what is listed is a breakpoint
-pub among_breakpoints : (S : Table) (n v : ℕ) → Among v (breakpoints_of S n) → (v < n) × ((S v).broken ≡ true)
+pub among_breakpoints : (S : Marks) (n v : ℕ) → Among v (breakpoints_of S n) → (v < n) × ((S v).broken ≡ true)
 among_breakpoints S zero v a = absurd (among_none a)
 among_breakpoints S (suc n) v a =
     let P : List ℕ → Type 0 = λ xs. Among v xs in

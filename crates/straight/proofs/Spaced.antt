@@ -13,26 +13,28 @@ use Rattle.forest.proofs.Accepted.{accepted, accepted_good}
 use Rattle.walk_laws.specs.Walk.{Rules}
 use Rattle.walk_laws.specs.Promise.{Branch, Triangle}
 use Rattle.tree_laws.specs.declared.Row.{Row}
-use Rattle.tree_laws.specs.Trees.{length_of, row_of, spot_of, up}
-use Rattle.tree_laws.specs.Distances.{Measured, reach_of}
+use Rattle.tree_laws.specs.Trees.{row_length, row_of, row_spot, up}
+use Rattle.tree_laws.specs.Distances.{Measured}
+use Rattle.space.specs.Totals.{capped_distance}
 use Rattle.tree_laws.proofs.HookMoves.{uncut}
 use Rattle.build_laws.specs.Straight.{straight_row}
 use Rattle.build_laws.proofs.Building.{straight_length, straight_row_lem}
-use Rattle.straight.specs.Built.{Laid, Measures, StraightBy, Straightened, origin, rules_of, spot_at}
+use Rattle.straight.specs.Built.{MeasuredSeed, Measures, StraightBy, Straightened, origin, build_rules}
+use Rattle.space.specs.Spots.{spot_of}
 use Rattle.straight.proofs.Mixed.{among_breakpoints, row_broken, row_hung}
 
-module _ {X : Type 0} (G : Ghosts X) (s : X) (law : G.width s ≤ LONGEST → Metric (G.admitted s) (G.width s) (G.between s)) (spots : List Spot) (n : ℕ) (E : List Edge) (sound : Sound n E) (size : n ≡ length spots) (a : Laid G s spots E) where
+module _ {X : Type 0} (G : Ghosts X) (s : X) (law : G.width s ≤ LONGEST → Metric (G.admitted s) (G.width s) (G.between s)) (spots : List Spot) (n : ℕ) (E : List Edge) (sound : Sound n E) (size : n ≡ length spots) (a : MeasuredSeed G s spots E) where
   abbrev far : ℕ → ℕ → ℕ
-  far u v = G.between s (spot_at spots u) (spot_at spots v)
+  far u v = G.between s (spot_of spots u) (spot_of spots v)
 
   abbrev metric : Metric (G.admitted s) (G.width s) (G.between s)
   metric = law a.narrow
 
-  admits : (k : ℕ) → k < n → G.admitted s (spot_at spots k) ≡ true
+  admits : (k : ℕ) → k < n → G.admitted s (spot_of spots k) ≡ true
   admits k h = a.admitted k (omega (arith, size))
 
   swap : (u v : ℕ) → u < n → v < n → far u v ≡ far v u
-  swap u v h k = metric.symmetric (spot_at spots u) (spot_at spots v) (admits u h) (admits v k)
+  swap u v h k = metric.symmetric (spot_of spots u) (spot_of spots v) (admits u h) (admits v k)
 
   -- an edge between two nodes has their distance as its length
   near_far : (u v l : ℕ) → Near E u v l → (u < n) × (v < n) × (l ≡ far u v)
@@ -54,17 +56,17 @@ module _ {X : Type 0} (G : Ghosts X) (s : X) (law : G.width s ≤ LONGEST → Me
       k.between
 
   -- no distance from the driver is cut
-  reach_far : 0 < n → (k : ℕ) → k < n → reach_of G s (spot_at spots 0) (spot_at spots k) ≡ far 0 k
+  reach_far : 0 < n → (k : ℕ) → k < n → capped_distance G s (spot_of spots 0) (spot_of spots k) ≡ far 0 k
   reach_far some k h =
       let x = admits 0 some in
       let y = admits k h in
-      let both : G.admitted s (spot_at spots 0) && G.admitted s (spot_at spots k) ≡ true = rw (x, y) in
-      uncut (far 0 k) (G.width s) (G.admitted s (spot_at spots 0) && G.admitted s (spot_at spots k)) both (metric.within (spot_at spots 0) (spot_at spots k) x y) a.narrow
+      let both : G.admitted s (spot_of spots 0) && G.admitted s (spot_of spots k) ≡ true = rw (x, y) in
+      uncut (far 0 k) (G.width s) (G.admitted s (spot_of spots 0) && G.admitted s (spot_of spots k)) both (metric.within (spot_of spots 0) (spot_of spots k) x y) a.narrow
 
-  reaches_far : 0 < n → map (reach_of G s (spot_at spots 0)) spots ≡ map (G.between s (spot_at spots 0)) spots
+  reaches_far : 0 < n → map (capped_distance G s (spot_of spots 0)) spots ≡ map (G.between s (spot_of spots 0)) spots
   reaches_far some =
-      let f = reach_of G s (spot_at spots 0) in
-      let g = G.between s (spot_at spots 0) in
+      let f = capped_distance G s (spot_of spots 0) in
+      let g = G.between s (spot_of spots 0) in
       ext_get_or 0 (map f spots) (map g spots) (length-map spots f ∙ sym (length-map spots g))
       (λ k h.
       let m : k < length spots = omega (arith, length-map spots f) in
@@ -72,55 +74,55 @@ module _ {X : Type 0} (G : Ghosts X) (s : X) (law : G.width s ≤ LONGEST → Me
 
   module _ (p q pins : ℕ) where
     abbrev R : Rules
-    R = rules_of (G.between s) p q pins spots
+    R = build_rules (G.between s) p q pins spots
 
-    rules_far : 0 < n → rules_of (reach_of G s) p q pins spots ≡ rules_of (G.between s) p q pins spots
+    rules_far : 0 < n → build_rules (capped_distance G s) p q pins spots ≡ build_rules (G.between s) p q pins spots
     rules_far some = ap (λ (xs : List ℕ). record { p = p; q = q; pins = pins; direct = λ v. get_or xs v 0 }) (reaches_far some)
 
     direct_far : (v : ℕ) → v < n → R.direct v ≡ far 0 v
-    direct_far v h = get_or-map (G.between s (spot_at spots 0)) spots v origin 0 (omega (arith, size))
+    direct_far v h = get_or-map (G.between s (spot_of spots 0)) spots v origin 0 (omega (arith, size))
 
     nearer : 0 < n → (u v l : ℕ) → Near E u v l → R.direct v ≤ R.direct u + l
     nearer some u v l k =
         let e = near_far u v l k in
-        omega (arith, e.2, direct_far u e.0, direct_far v e.1, metric.triangle (spot_at spots 0) (spot_at spots u) (spot_at spots v) (admits 0 some) (admits u e.0) (admits v e.1))
+        omega (arith, e.2, direct_far u e.0, direct_far v e.1, metric.triangle (spot_of spots 0) (spot_of spots u) (spot_of spots v) (admits 0 some) (admits u e.0) (admits v e.1))
 
     module _ (found : List ℕ) (w : ℕ) (built : List Row) (some : 0 < n) (b : Straightened (G.between s) spots p q pins n E found w built) where
       triangle : Triangle R b.walked.planted.forest
       triangle u v l d =
           let k = b.walked.seen.edges u v l d in
           let e = near_far u v l k in
-          (nearer some u v l k, omega (arith, e.2, swap u v e.0 e.1, direct_far u e.0, direct_far v e.1, metric.triangle (spot_at spots 0) (spot_at spots v) (spot_at spots u) (admits 0 some) (admits v e.1) (admits u e.0)))
+          (nearer some u v l k, omega (arith, e.2, swap u v e.0 e.1, direct_far u e.0, direct_far v e.1, metric.triangle (spot_of spots 0) (spot_of spots v) (spot_of spots u) (admits 0 some) (admits v e.1) (admits u e.0)))
 
       start : R.direct 0 ≡ 0
-      start = direct_far 0 some ∙ metric.itself (spot_at spots 0) (admits 0 some)
+      start = direct_far 0 some ∙ metric.itself (spot_of spots 0) (admits 0 some)
 
-      row_at : (k : ℕ) → k < n → row_of built k ≡ straight_row R b.marks (spot_at spots) k
-      row_at k h = ap (λ (rows : List Row). row_of rows k) b.rows ∙ straight_row_lem R b.marks (spot_at spots) n k h
+      row_at : (k : ℕ) → k < n → row_of built k ≡ straight_row R b.marks (spot_of spots) k
+      row_at k h = ap (λ (rows : List Row). row_of rows k) b.rows ∙ straight_row_lem R b.marks (spot_of spots) n k h
 
-      spot_at_lem : (k : ℕ) → k < n → spot_of built k ≡ spot_at spots k
+      spot_at_lem : (k : ℕ) → k < n → row_spot built k ≡ spot_of spots k
       spot_at_lem k h = ap (λ (r : Row). r.spot) (row_at k h)
 
       count : length built ≡ n
-      count = ap length b.rows ∙ straight_length R b.marks (spot_at spots) n
+      count = ap length b.rows ∙ straight_length R b.marks (spot_of spots) n
 
       -- the length of a row whose parent is u
-      long_at : (k u : ℕ) → k < n → u < n → up built k ≡ u → length_of built k ≡ far u k → length_of built k ≡ G.between s (spot_of built (up built k)) (spot_of built k)
+      long_at : (k u : ℕ) → k < n → u < n → up built k ≡ u → row_length built k ≡ far u k → row_length built k ≡ G.between s (row_spot built (up built k)) (row_spot built k)
       long_at k u h m e l =
           l
-          ∙ ap (λ (z : Spot). G.between s z (spot_at spots k)) (sym (ap (spot_of built) e ∙ spot_at_lem u m))
-          ∙ ap (G.between s (spot_of built (up built k))) (sym (spot_at_lem k h))
+          ∙ ap (λ (z : Spot). G.between s z (spot_of spots k)) (sym (ap (row_spot built) e ∙ spot_at_lem u m))
+          ∙ ap (G.between s (row_spot built (up built k))) (sym (spot_at_lem k h))
 
-      long_broken : (k : ℕ) → k < n → (k ≡ 0 → ⊥) → (b.marks k).broken ≡ true → length_of built k ≡ G.between s (spot_of built (up built k)) (spot_of built k)
+      long_broken : (k : ℕ) → k < n → (k ≡ 0 → ⊥) → (b.marks k).broken ≡ true → row_length built k ≡ G.between s (row_spot built (up built k)) (row_spot built k)
       long_broken k h nz o =
-          let e = row_at k h ∙ sym (row_broken R b.marks (spot_at spots) k nz o) in
+          let e = row_at k h ∙ sym (row_broken R b.marks (spot_of spots) k nz o) in
           long_at k 0 h some (ap (λ (r : Row). r.parent) e) (ap (λ (r : Row). r.length) e ∙ direct_far k h)
 
-      long_hung : (k : ℕ) → k < n → (k ≡ 0 → ⊥) → (b.marks k).broken ≡ false → length_of built k ≡ G.between s (spot_of built (up built k)) (spot_of built k)
+      long_hung : (k : ℕ) → k < n → (k ≡ 0 → ⊥) → (b.marks k).broken ≡ false → row_length built k ≡ G.between s (row_spot built (up built k)) (row_spot built k)
       long_hung k h nz o =
           let S = b.marks in
           let F = b.walked.planted.forest in
-          let e = row_at k h ∙ sym (row_hung R S (spot_at spots) k nz o) in
+          let e = row_at k h ∙ sym (row_hung R S (spot_of spots) k nz o) in
           let t = b.walked.keeps.told k h in
           let near : ((S k).parent < n) × ((S k).edge ≡ far (S k).parent k) =
           ⊎_elim
@@ -152,8 +154,8 @@ module _ {X : Type 0} (G : Ghosts X) (s : X) (law : G.width s ≤ LONGEST → Me
           ap_le : {x : ℕ} (v : ℕ) → v < n → x ≤ (p + q) * R.direct v → x ≤ (p + q) * far 0 v
           ap_le {x} v m h = let Q : ℕ → Type 0 = λ y. x ≤ (p + q) * y in subst Q (direct_far v m) h
 
-    pub laid_measures : (found : List ℕ) (w : ℕ) (built : List Row) → Straightened (reach_of G s) spots p q pins n E found w built → Measures G s spots p q pins n E found w built
+    pub laid_measures : (found : List ℕ) (w : ℕ) (built : List Row) → Straightened (capped_distance G s) spots p q pins n E found w built → Measures G s spots p q pins n E found w built
     laid_measures found w built b =
         let some : 0 < n = omega (arith, b.walked.planted.many) in
-        let P : Rules → Type 0 = λ rules. StraightBy rules (spot_at spots) n E found w built in
+        let P : Rules → Type 0 = λ rules. StraightBy rules (spot_of spots) n E found w built in
         measures found w built some (subst P (rules_far some) b)

@@ -6,15 +6,16 @@ use mathlib.Core.Path.{fun_ext}
 use Rattle.space.specs.declared.spot.Spot.{Spot}
 use Rattle.forest.specs.declared.Edge.{Edge}
 use Rattle.forest.specs.Edges.{Sound}
-use Rattle.walk.specs.declared.row.Row.{Row as WalkRow}
+use Rattle.walk.specs.declared.row.NodeRow.{NodeRow as WalkRow}
 use Rattle.walk.specs.Marks.{directs, marks}
 use Rattle.walk.specs.Marks as walk
 use Rattle.walk.specs.declared.table.WalkFault.{WalkFault}
-use Rattle.walk.specs.Walked.{Kept, Walked}
+use Rattle.walk.specs.Walked.{DirectsKept, Walked}
 use Rattle.tree_laws.specs.declared.Row.{Row}
 use Rattle.tree_laws.specs.Trees.{wire_of}
 use Rattle.build_laws.specs.Straight.{Straight, straight}
-use Rattle.straight.specs.Built.{Straightened, breakpoints_of, rules_of, spot_at}
+use Rattle.straight.specs.Built.{Straightened, breakpoints_of, build_rules}
+use Rattle.space.specs.Spots.{spot_of}
 use Rattle.straight.specs.Laying.{Falling, Laying, directs_of}
 use Rattle.straight.proofs.Distances.{directs_at}
 use Rattle.straight.proofs.Falls.{walked_falls, walked_straight}
@@ -30,11 +31,11 @@ pub rows_counted : (d : Spot → ℕ) (spots : List Spot) (rows : List WalkRow) 
 rows_counted d spots rows h = sym (length-map rows (λ (x : WalkRow). x.direct)) ∙ ap length h ∙ length-map spots d
 
 module _ (d : Spot → Spot → ℕ) (spots : List Spot) (p q pins n : ℕ) (E : List Edge) (old new : List WalkRow) (pos : 0 < q) (sound : Sound n E) (size : n ≡ length spots)
-    (measured : directs_of old ≡ map (d (spot_at spots 0)) spots) (walks : Walked (walk.rules_of p q pins old) n E (marks new)) (kept : Kept old new) where
-  direct_old : (k : ℕ) → directs old k ≡ (rules_of d p q pins spots).direct k
+    (measured : directs_of old ≡ map (d (spot_of spots 0)) spots) (walks : Walked (walk.walk_rules p q pins old) n E (marks new)) (kept : DirectsKept old new) where
+  direct_old : (k : ℕ) → directs old k ≡ (build_rules d p q pins spots).direct k
   direct_old k = directs_at old k ∙ ap (λ (xs : List ℕ). get_or xs k 0) measured
 
-  whole_walked : Walked (rules_of d p q pins spots) n E (marks new)
+  whole_walked : Walked (build_rules d p q pins spots) n E (marks new)
   whole_walked =
       let P : (ℕ → ℕ) → Type 0 = λ f. Walked (record { p = p; q = q; pins = pins; direct = f }) n E (marks new) in
       subst P (fun_ext direct_old) walks
@@ -42,20 +43,20 @@ module _ (d : Spot → Spot → ℕ) (spots : List Spot) (p q pins n : ℕ) (E :
   pub whole_falls : Falling (length spots) (marks new)
   whole_falls =
       let P : ℕ → Type 0 = λ m. Falling m (marks new) in
-      subst P size (walked_falls (rules_of d p q pins spots) n E (marks new) sound pos whole_walked)
+      subst P size (walked_falls (build_rules d p q pins spots) n E (marks new) sound pos whole_walked)
 
-  pub whole_straight : (found : List ℕ) (total : ℕ) (built : List Row) → Laying (walk.rules_of 0 0 0 new) (marks new) (spot_at spots) (length spots) (length spots) built → found ≡ breakpoints_of (marks new) (length spots) → total ≡ wire_of built → Straightened d spots p q pins n E found total built
+  pub whole_straight : (found : List ℕ) (total : ℕ) (built : List Row) → Laying (walk.walk_rules 0 0 0 new) (marks new) (spot_of spots) (length spots) (length spots) built → found ≡ breakpoints_of (marks new) (length spots) → total ≡ wire_of built → Straightened d spots p q pins n E found total built
   whole_straight found total built l f t =
-      let R = rules_of d p q pins spots in
-      let P : ℕ → Type 0 = λ m. Laying (walk.rules_of 0 0 0 new) (marks new) (spot_at spots) m m built in
+      let R = build_rules d p q pins spots in
+      let P : ℕ → Type 0 = λ m. Laying (walk.walk_rules 0 0 0 new) (marks new) (spot_of spots) m m built in
       let Q : List Row → Type 0 = λ rows. Straight R n whole_walked.planted.forest (marks new) rows in
-      let e : built ≡ straight R (marks new) (spot_at spots) n =
-      laid_straight (walk.rules_of 0 0 0 new) R (marks new) (spot_at spots) n built (λ k. kept.direct k ∙ direct_old k) (subst P (sym size) l) in
+      let e : built ≡ straight R (marks new) (spot_of spots) n =
+      laid_straight (walk.walk_rules 0 0 0 new) R (marks new) (spot_of spots) n built (λ k. kept.direct k ∙ direct_old k) (subst P (sym size) l) in
       record {
         marks = marks new;
         walked = whole_walked;
         rows = e;
-        keeps = subst Q (sym e) (walked_straight R n E (marks new) sound pos whole_walked (spot_at spots));
+        keeps = subst Q (sym e) (walked_straight R n E (marks new) sound pos whole_walked (spot_of spots));
         broken = f ∙ ap (breakpoints_of (marks new)) (sym size);
         wire = t;
       }

@@ -5,7 +5,7 @@ use Rattle.space.specs.declared.TheConstants.{LONGEST}
 use Rattle.space.specs.declared.spot.Spot.{Spot}
 use Rattle.walk_laws.specs.Walk.{Rules}
 use Rattle.walk_laws.specs.Walk as laws
-use Rattle.walk.specs.declared.row.Row.{Row as WalkRow}
+use Rattle.walk.specs.declared.row.NodeRow.{NodeRow as WalkRow}
 use Rattle.tree_laws.specs.declared.Row.{Row}
 use Rattle.tree_laws.specs.Trees.{row_of}
 use Rattle.build_laws.specs.Straight.{straight_row}
@@ -15,12 +15,12 @@ abbrev pub directs_of : List WalkRow → List ℕ
 directs_of rows = map (λ r. r.direct) rows
 
 -- The estimate of a node; 0 where it has none.
-abbrev pub height : laws.Table → ℕ → ℕ
+abbrev pub height : laws.Marks → ℕ → ℕ
 height S v = unwrap_or (S v).est 0
 
 -- Marks by which the nodes below n can be hung: the driver is no breakpoint, and every other node that is none has a node for a parent,
 -- with a smaller estimate, over an edge that is not too long.
-pub record Falling (n : ℕ) (S : laws.Table) : Type 0 where
+pub record Falling (n : ℕ) (S : laws.Marks) : Type 0 where
   pub some : 0 < n
   pub driver : (S 0).broken ≡ false
   pub parent : (v : ℕ) → v < n → (v ≢ 0) → (S v).broken ≡ false → (S v).parent < n
@@ -32,7 +32,7 @@ abbrev pub star_row : (ℕ → ℕ) → (ℕ → Spot) → ℕ → Row
 star_row direct place v = record { parent = 0; spot = place v; length = direct v }
 
 -- The rows of the nodes below n: the driver's; those below i as in the straight tree, and the others on the driver.
-pub record Laying (R : Rules) (S : laws.Table) (place : ℕ → Spot) (n i : ℕ) (rows : List Row) : Type 0 where
+pub record Laying (R : Rules) (S : laws.Marks) (place : ℕ → Spot) (n i : ℕ) (rows : List Row) : Type 0 where
   pub count : length rows ≡ n
   pub done : (k : ℕ) → k < n → k < i → row_of rows k ≡ straight_row R S place k
   pub rest : (k : ℕ) → k < n → i ≤ k → row_of rows k ≡ star_row R.direct place k

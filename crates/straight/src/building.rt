@@ -11,7 +11,7 @@ use walk::Allowance;
 /// The memory for building straight trees, reserved once: the table of the walk, and the breakpoints that it found.
 #[derive(Drop)]
 pub struct Builder {
-    walk: walk::Table,
+    walk: walk::Walk,
     broken: Vec<usize>,
     ghost room: { NODES ≤ vec_capacity broken },
 }
@@ -21,7 +21,7 @@ impl Builder {
     pub fn new(heap: Global) -> Result<Builder, AllocError>
         ensures { IfOk result (λ b. b.broken.items ≡ []) }
     {
-        let walk = walk::Table::new(heap)?;
+        let walk = walk::Walk::new(heap)?;
         let broken = Vec::with_capacity(heap, NODES)?;
         Ok(Builder { walk, broken })
     }
@@ -36,7 +36,7 @@ impl Builder {
         pins: usize,
         allowance: Allowance,
         seed: &SeedTree<'_>,
-        tree: &mut tree::Table,
+        tree: &mut tree::Tree,
     ) -> Option<u64>
         ensures { Answer S.Space space.now tree.old self.old.broken.items spots.now allowance.p allowance.q pins
             seed.now.seed.now self.new.broken.items result tree.new }

@@ -2,26 +2,26 @@
 ghost use Rattle.std.specs.Prelude.{◌≡◌, ◌≤◌, ◌↔◌, map, length, vec_capacity, slice_index_or, IsSome, OnSome};
 ghost use Rattle.space.specs.declared.TheConstants.{LONGEST};
 ghost use Rattle.seed.specs.declared.store.TheConstants.{NODES};
-ghost use Rattle.tree_laws.specs.Distances.{reach_of};
+ghost use Rattle.space.specs.Totals.{capped_distance};
 ghost use Rattle.walk.specs.Marks.{directs, idle, marks};
 ghost use Rattle.walk.specs.Tables.{as.rows walkRows};
-ghost use Rattle.straight.specs.Built.{breakpoints_of, spot_at};
+ghost use Rattle.straight.specs.Built.{breakpoints_of};
+ghost use Rattle.space.specs.Spots.{spot_of};
 ghost use Rattle.straight.specs.Laying.{Falling, directs_of};
 
-use space::{Space, Spot, spot_of};
-use tree::reach;
+use space::{Space, Spot, capped_distance, spot_of};
 use walk::Mark;
 
 /// Gives the walk a row for each spot, with its distance from the driver. `None` where there are more spots than a walk can have rows.
-pub(crate) fn measure<S: Space>(walk: &mut walk::Table, space: &S, spots: &[Spot]) -> Option<()>
+pub(crate) fn measure<S: Space>(walk: &mut walk::Walk, space: &S, spots: &[Spot]) -> Option<()>
     ensures room { IsSome result ↔ (length spots.now ≤ NODES) }
     ensures rows { OnSome result
-        (directs_of (walkRows walk.new) ≡ map (reach_of S.Space space.now (spot_at spots.now 0)) spots.now) }
+        (directs_of (walkRows walk.new) ≡ map (capped_distance S.Space space.now (spot_of spots.now 0)) spots.now) }
 {
     walk.clear();
     let driver = spot_of(spots, 0);
     for spot in spots {
-        walk.add(reach(space, driver, *spot))?;
+        walk.add(capped_distance(space, driver, *spot))?;
     }
     Some(())
 }
@@ -29,7 +29,7 @@ pub(crate) fn measure<S: Space>(walk: &mut walk::Table, space: &S, spots: &[Spot
 /// A finished walk and the spots of its nodes: what a straight tree is laid by.
 #[derive(Drop)]
 pub(crate) struct Plan<'a> {
-    pub(crate) walk: &'a walk::Table,
+    pub(crate) walk: &'a walk::Walk,
     pub(crate) spots: &'a [Spot],
     ghost few: { length spots.now ≤ NODES },
 }
@@ -53,7 +53,7 @@ impl<'a> Plan<'a> {
     }
 
     /// Hangs every node on the driver, at its direct distance. There is room for all of them.
-    fn star(&self, tree: &mut tree::Table) -> Option<()>
+    fn star(&self, tree: &mut tree::Tree) -> Option<()>
         requires { 1 ≤ length self.now.spots.now }
         ensures done { IsSome result }
         ensures rows { LaidTo self.now 1 tree.new.rows }
@@ -66,7 +66,7 @@ impl<'a> Plan<'a> {
     }
 
     /// Lays the rows of the straight tree, and lists the breakpoints. Every node can be hung.
-    pub(crate) fn lay(&self, tree: &mut tree::Table, broken: &mut Vec<usize>) -> Option<()>
+    pub(crate) fn lay(&self, tree: &mut tree::Tree, broken: &mut Vec<usize>) -> Option<()>
         requires room { NODES ≤ vec_capacity broken.old }
         requires falling { Falling (length self.now.spots.now) (marks (walkRows self.now.walk.now)) }
         ensures done { IsSome result }

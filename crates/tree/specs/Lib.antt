@@ -1,4 +1,4 @@
-pub mod TableValue
+pub mod TreeValue
 pub mod Tables
 pub mod Hooks
 pub mod Searches

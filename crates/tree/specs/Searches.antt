@@ -2,13 +2,13 @@
 use Rattle.std.specs.Prelude.{◌≡◌, ℕ}
 use Rattle.space.specs.declared.Space.{Ghosts}
 use Rattle.tree_laws.specs.declared.hook.Hook.{Hook}
-use Rattle.tree_laws.specs.Distances.{apart}
+use Rattle.tree_laws.specs.Distances.{capped_row_distance}
 use Rattle.tree_laws.specs.Hooks.{HookMove}
 use Rattle.tree.specs.declared.refining.HookSearch.{HookSearch}
 
 -- A move of the table that is searched.
 abbrev pub MoveIn : {X : Type 0} → (G : Ghosts X) → HookSearch X G → Hook → Type 0
-MoveIn G q = HookMove q.table.now.rows (apart G q.space.now q.table.now.rows)
+MoveIn G q = HookMove q.table.now.rows (capped_row_distance G q.space.now q.table.now.rows)
 
 -- A move of v on u.
 abbrev pub MoveAt : {X : Type 0} → (G : Ghosts X) → HookSearch X G → (v u : ℕ) → Hook → Type 0

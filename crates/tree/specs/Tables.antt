@@ -4,10 +4,10 @@ use Rattle.space.specs.Laws.{answered}
 use Rattle.space.specs.declared.TheConstants.{LONGEST}
 use Rattle.space.specs.declared.spot.Spot.{Spot}
 use Rattle.tree_laws.specs.declared.Row.{Row}
-use Rattle.tree_laws.specs.Trees.{Hangs, add, hang, path_length, row_of, under}
+use Rattle.tree_laws.specs.Trees.{MayHang, add, hang, path_length, row_of, under}
 use Rattle.tree.specs.declared.table.HangFault.{HangFault}
 use Rattle.tree.specs.declared.table.HangFault.TheVariants.{Driver, NoRow, NoParent, TooLong, Below}
-use Rattle.tree.specs.declared.table.Table.{Table}
+use Rattle.tree.specs.declared.table.Tree.{Tree}
 use Rattle.tree.specs.declared.table.TheConstants.{ROWS}
 
 -- The row k; nothing past the end.
@@ -24,15 +24,15 @@ pub record Paths (rows : List Row) (ps : List ℕ) : Type 0 where
   pub paths : (k : ℕ) → k < length rows → slice_index ps k ≡ path_length rows k
 
 -- There is room for one more row, and it can hang on u at length l.
-pub record Fits (t : Table) (u l : ℕ) : Type 0 where
+pub record Fits (t : Tree) (u l : ℕ) : Type 0 where
   pub parent : u < length t.rows
   pub short : l ≤ LONGEST
   pub room : length t.rows < ROWS
 
 -- Asked for one more row at z on u, the table s answers r and is t then.
-abbrev pub Added : (s : Table) (u : ℕ) (z : Spot) (l : ℕ) → Option ℕ → (t : Table) → Type 0
-Added s u z l None t = (Fits s u l → ⊥) × (t ≡ s)
-Added s u z l (Some k) t = Fits s u l × (k ≡ length s.rows) × (t.rows ≡ add s.rows u z l)
+abbrev pub RowAdded : (s : Tree) (u : ℕ) (z : Spot) (l : ℕ) → Option ℕ → (t : Tree) → Type 0
+RowAdded s u z l None t = (Fits s u l → ⊥) × (t ≡ s)
+RowAdded s u z l (Some k) t = Fits s u l × (k ≡ length s.rows) × (t.rows ≡ add s.rows u z l)
 
 -- The first reason why v can't hang on u at length l.
 abbrev pub Refused : List Row → (v u l : ℕ) → HangFault → Type 0
@@ -43,11 +43,11 @@ Refused rows v u l TooLong = (v ≢ 0) × (v < length rows) × (u < length rows)
 Refused rows v u l Below = (v ≢ 0) × (v < length rows) × (u < length rows) × (l ≤ LONGEST) × (under rows u v ≡ true)
 
 -- Asked whether v can hang on u at length l, the answer is r.
-abbrev pub Hanging : List Row → (v u l : ℕ) → Result (Unit {0}) HangFault → Type 0
-Hanging rows v u l (Ok _) = Hangs rows v u × (l ≤ LONGEST)
-Hanging rows v u l (Err e) = (Hangs rows v u → l ≤ LONGEST → ⊥) × Refused rows v u l e
+abbrev pub CanHang : List Row → (v u l : ℕ) → Result (Unit {0}) HangFault → Type 0
+CanHang rows v u l (Ok _) = MayHang rows v u × (l ≤ LONGEST)
+CanHang rows v u l (Err e) = (MayHang rows v u → l ≤ LONGEST → ⊥) × Refused rows v u l e
 
 -- Asked to hang v on u at length l, the table s answers r and is t then.
-abbrev pub Changed : (s : Table) (v u l : ℕ) → Result (Unit {0}) HangFault → (t : Table) → Type 0
-Changed s v u l (Ok _) t = Hangs s.rows v u × (l ≤ LONGEST) × (t.rows ≡ hang s.rows v u l)
-Changed s v u l (Err e) t = (Hangs s.rows v u → l ≤ LONGEST → ⊥) × Refused s.rows v u l e × (t ≡ s)
+abbrev pub Changed : (s : Tree) (v u l : ℕ) → Result (Unit {0}) HangFault → (t : Tree) → Type 0
+Changed s v u l (Ok _) t = MayHang s.rows v u × (l ≤ LONGEST) × (t.rows ≡ hang s.rows v u l)
+Changed s v u l (Err e) t = (MayHang s.rows v u → l ≤ LONGEST → ⊥) × Refused s.rows v u l e × (t ≡ s)

@@ -1,27 +1,18 @@
-ghost use Rattle.std.specs.Prelude.{◌≡◌, ◌≤◌};
-ghost use Rattle.space.specs.declared.TheConstants.{LONGEST};
-ghost use Rattle.tree_laws.specs.Distances.{Measured, reach_of};
+ghost use Rattle.std.specs.Prelude.{◌≡◌};
+ghost use Rattle.tree_laws.specs.Distances.{Measured};
 ghost use Rattle.tree.specs.Hooks.{Hooked};
 ghost use Rattle.tree.specs.Tables.{Paths};
 
-use crate::table::{ROWS, Table};
+use crate::table::{ROWS, Tree};
 use search::first_of_pairs;
-use space::{LONGEST, Space, Spot};
+use space::{Space, capped_distance};
 use tree_laws::Hook;
-
-/// The distance of two spots, at most `LONGEST`; 0 where there is none.
-pub fn reach<S: Space>(space: &S, a: Spot, b: Spot) -> u64
-    ensures value { result ≡ reach_of S.Space space.now a b }
-    ensures bound { result ≤ LONGEST }
-{
-    space.distance(a, b).map_or(0, |d| d.min(LONGEST))
-}
 
 /// The search for the best move of a table: the space that measures its rows, and the path of each row.
 #[derive(Drop)]
 struct HookSearch<'a, S: Space> {
     space: &'a S,
-    table: &'a Table,
+    table: &'a Tree,
     paths: [u64; ROWS],
     ghost known: { Paths table.now.rows paths },
 }
@@ -40,7 +31,7 @@ impl<'a, S: Space> HookSearch<'a, S> {
         if self.paths[u] > self.paths[v] {
             return None;
         }
-        let new = reach(self.space, parent.spot, old.spot);
+        let new = capped_distance(self.space, parent.spot, old.spot);
         if new >= old.length {
             return None;
         }
@@ -64,7 +55,7 @@ impl<'a, S: Space> HookSearch<'a, S> {
 }
 
 /// Makes the best hook move of the table and answers what it saves; nothing, with the table as it was, where no move saves 1 or more.
-pub fn hook_best<S: Space>(space: &S, table: &mut Table) -> Option<u64>
+pub fn hook_best<S: Space>(space: &S, table: &mut Tree) -> Option<u64>
     ensures answer { Hooked S.Space space.now table.old result table.new }
     ensures measured { Measured S.Space space.now table.old.rows
         → Measured S.Space space.now table.new.rows }

@@ -1,8 +1,8 @@
 ghost use Rattle.std.specs.Prelude.{◌≡◌, ℕ, ◌≤◌, [], ◌∷◌, length, vec_capacity};
 ghost use Rattle.space.specs.declared.TheConstants.{LONGEST};
 ghost use Rattle.tree.specs.declared.table.TheConstants.{ROWS};
-ghost use Rattle.tree.specs.TableValue.{alone};
-ghost use Rattle.tree_laws.specs.Trees.{Tree, length_of};
+ghost use Rattle.tree.specs.TreeValue.{alone};
+ghost use Rattle.tree_laws.specs.Trees.{RowTree, row_length};
 
 use space::{LONGEST, Spot};
 use std::alloc::{AllocError, Global};
@@ -36,18 +36,18 @@ pub enum HangFault {
 
 /// Rows that all hang, one on another, on row 0, the driver.
 #[derive(Drop)]
-pub struct Table {
+pub struct Tree {
     rows: Vec<Row>,
     ghost room: { ROWS ≤ vec_capacity rows },
     ghost few: { length rows.items ≤ ROWS },
-    ghost lengths: { (k : ℕ) → length_of rows.items k ≤ LONGEST },
-    ghost tree: { Tree rows.items },
+    ghost lengths: { (k : ℕ) → row_length rows.items k ≤ LONGEST },
+    ghost tree: { RowTree rows.items },
 }
 
-impl Model for Table {
-    ghost use Rattle.tree.specs.TableValue.{TableValue};
+impl Model for Tree {
+    ghost use Rattle.tree.specs.TreeValue.{TreeValue};
 
-    ghost Value = { TableValue };
+    ghost Value = { TreeValue };
 
     ghost view = { λ t. record {
       rows = t.rows.items;
@@ -57,18 +57,18 @@ impl Model for Table {
     } };
 }
 
-impl Table {
+impl Tree {
     ghost use Rattle.std.specs.Prelude.{◌<◌, IfOk};
-    ghost use Rattle.tree_laws.specs.Trees.{Hung, row_of, under, wire_of};
-    ghost use Rattle.tree.specs.Tables.{Added, Changed, Hanging, Paths, path_at, row_at};
+    ghost use Rattle.tree_laws.specs.Trees.{OnePath, row_of, under, wire_of};
+    ghost use Rattle.tree.specs.Tables.{RowAdded, Changed, CanHang, Paths, path_at, row_at};
 
     /// The driver alone, with room for `ROWS` rows.
-    pub fn new(heap: Global, driver: Spot) -> Result<Table, AllocError>
+    pub fn new(heap: Global, driver: Spot) -> Result<Tree, AllocError>
         ensures { IfOk result (λ t. t.rows ≡ alone driver) }
     {
         let mut rows = Vec::with_capacity(heap, ROWS)?;
         rows.push_reserved(root(driver));
-        Ok(Table { rows })
+        Ok(Tree { rows })
     }
 
     /// Starts again with the driver alone.
@@ -112,7 +112,7 @@ impl Table {
     /// a turn for each row of the table.
     pub fn path(&self, k: usize) -> Option<u64>
         ensures path { result ≡ path_at self.now.rows k }
-        ensures way { k < length self.now.rows → Hung self.now.rows k }
+        ensures way { k < length self.now.rows → OnePath self.now.rows k }
     {
         if k >= self.len() {
             return None;
@@ -151,7 +151,7 @@ impl Table {
     /// Adds a row on `u` and answers its number; nothing, with the table as it was, where `u` is no row, the length is above `LONGEST`, or
     /// there are `ROWS` rows.
     pub fn add(&mut self, u: usize, spot: Spot, length: u64) -> Option<usize>
-        ensures { Added self.old u spot length result self.new }
+        ensures { RowAdded self.old u spot length result self.new }
     {
         let k = self.len();
         if u >= k || length > LONGEST || k >= ROWS {
@@ -167,7 +167,7 @@ impl Table {
 
     /// Whether `v` can hang on `u` at a length, or the first reason why it can't.
     fn can_hang(&self, v: usize, u: usize, length: u64) -> Result<(), HangFault>
-        ensures { Hanging self.now.rows v u length result }
+        ensures { CanHang self.now.rows v u length result }
     {
         if v == 0 {
             return Err(HangFault::Driver);

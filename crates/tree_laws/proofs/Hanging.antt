@@ -7,39 +7,39 @@ use Rattle.order.specs.Firsts.{Among}
 use Rattle.order.specs.Firsts.Among.{here, there}
 use Rattle.order.proofs.Finding.{among_either, among_one, among_left, among_right}
 use Rattle.tree_laws.specs.declared.Row.{Row}
-use Rattle.tree_laws.specs.Trees.{Tree, Way, Hangs, blank, up, length_of, spot_of, path_length, wire_of, under, along, hang}
-use Rattle.tree_laws.specs.Trees.Way.{home, down}
+use Rattle.tree_laws.specs.Trees.{RowTree, RowWay, MayHang, blank, up, row_length, row_spot, path_length, wire_of, under, along, hang}
+use Rattle.tree_laws.specs.Trees.RowWay.{home, down}
 use Rattle.tree_laws.proofs.Few.{among_or}
 use Rattle.tree_laws.proofs.Ways.{way_only, placed, path_of_lem, not_under, under_among, tree_from}
 
 abbrev moved : List Row → (v u l : ℕ) → Row
-moved rows v u l = record { parent = u; spot = spot_of rows v; length = l }
+moved rows v u l = record { parent = u; spot = row_spot rows v; length = l }
 
 pub hang_length : (rows : List Row) (v u l : ℕ) → length (hang rows v u l) ≡ length rows
 hang_length rows v u l = length-set rows v (moved rows v u l)
 
-pub hang_wire : (rows : List Row) (v u l : ℕ) → v < length rows → wire_of (hang rows v u l) + length_of rows v ≡ wire_of rows + l
+pub hang_wire : (rows : List Row) (v u l : ℕ) → v < length rows → wire_of (hang rows v u l) + row_length rows v ≡ wire_of rows + l
 hang_wire rows v u l h = sum_by-set (λ (r : Row). r.length) rows v (moved rows v u l) blank h
 
 module _ (rows : List Row) (v u l : ℕ) where
   pub up_other : (k : ℕ) → (k ≡ v → ⊥) → up (hang rows v u l) k ≡ up rows k
   up_other k ne = ap (λ (r : Row). r.parent) (get_or-set_other rows v k (moved rows v u l) blank ne)
 
-  pub long_other : (k : ℕ) → (k ≡ v → ⊥) → length_of (hang rows v u l) k ≡ length_of rows k
+  pub long_other : (k : ℕ) → (k ≡ v → ⊥) → row_length (hang rows v u l) k ≡ row_length rows k
   long_other k ne = ap (λ (r : Row). r.length) (get_or-set_other rows v k (moved rows v u l) blank ne)
 
   pub up_same : v < length rows → up (hang rows v u l) v ≡ u
   up_same h = ap (λ (r : Row). r.parent) (get_or-set_same rows v (moved rows v u l) blank h)
 
-  pub long_same : v < length rows → length_of (hang rows v u l) v ≡ l
+  pub long_same : v < length rows → row_length (hang rows v u l) v ≡ l
   long_same h = ap (λ (r : Row). r.length) (get_or-set_same rows v (moved rows v u l) blank h)
 
   -- a way that does not come by v stays
-  pub way_stays : {k : ℕ} {ns : List ℕ} → Way rows k ns → (Among v ns → ⊥) → Way (hang rows v u l) k ns
+  pub way_stays : {k : ℕ} {ns : List ℕ} → RowWay rows k ns → (Among v ns → ⊥) → RowWay (hang rows v u l) k ns
   way_stays home off = home
   way_stays (down {k} {ns} ne w) off =
       let P : ℕ → Type 0 = λ z. Among z (k ∷ []) in
-      let Q : ℕ → Type 0 = λ z. Way (hang rows v u l) z ns in
+      let Q : ℕ → Type 0 = λ z. RowWay (hang rows v u l) z ns in
       let other : k ≡ v → ⊥ = λ e. off (among_right ns (k ∷ []) (subst P e here)) in
       down ne (subst Q (sym (up_other k other)) (way_stays w (λ a. off (among_left ns (k ∷ []) a))))
 
@@ -47,41 +47,41 @@ module _ (rows : List Row) (v u l : ℕ) where
   along_stays [] off = refl
   along_stays (x ∷ ns) off =
       let P : ℕ → Type 0 = λ z. Among z (x ∷ ns) in
-      let other : length_of (hang rows v u l) x ≡ length_of rows x = long_other x (λ e. off (subst P e here)) in
+      let other : row_length (hang rows v u l) x ≡ row_length rows x = long_other x (λ e. off (subst P e here)) in
       let rest : along (hang rows v u l) ns ≡ along rows ns = along_stays ns (λ a. off (there a)) in
-      sum_by-cons (length_of (hang rows v u l)) x ns ∙ ap (λ n. n + along (hang rows v u l) ns) other ∙ ap (λ n. length_of rows x + n) rest ∙ sym (sum_by-cons (length_of rows) x ns)
+      sum_by-cons (row_length (hang rows v u l)) x ns ∙ ap (λ n. n + along (hang rows v u l) ns) other ∙ ap (λ n. row_length rows x + n) rest ∙ sym (sum_by-cons (row_length rows) x ns)
 
   -- a way that comes by v begins with u's way then
-  way_moves : {us vs : List ℕ} → v < length rows → Way rows u us → (Among v us → ⊥) → Way rows v vs → (v ≡ 0 → ⊥) → {k : ℕ} {ns : List ℕ} → Way rows k ns → Among v ns
-      → (ms : List ℕ) × Way (hang rows v u l) k ms × (along (hang rows v u l) ms + along rows vs ≡ along rows ns + along rows us + l)
+  way_moves : {us vs : List ℕ} → v < length rows → RowWay rows u us → (Among v us → ⊥) → RowWay rows v vs → (v ≡ 0 → ⊥) → {k : ℕ} {ns : List ℕ} → RowWay rows k ns → Among v ns
+      → (ms : List ℕ) × RowWay (hang rows v u l) k ms × (along (hang rows v u l) ms + along rows vs ≡ along rows ns + along rows us + l)
   way_moves h wu off wv nv home a = absurd (nv (among_one a))
   way_moves {us} {vs} h wu off wv nv (down {k} {ns} ne w) a =
       let H = hang rows v u l in
       ⊎_elim
       (λ (e : k ≡ v).
-      let Q : ℕ → Type 0 = λ z. Way H z us in
+      let Q : ℕ → Type 0 = λ z. RowWay H z us in
       let parent : up H k ≡ u = ap (up H) e ∙ up_same h in
-      let long : length_of H k ≡ l = ap (length_of H) e ∙ long_same h in
-      let R : ℕ → Type 0 = λ z. Way rows z vs in
+      let long : row_length H k ≡ l = ap (row_length H) e ∙ long_same h in
+      let R : ℕ → Type 0 = λ z. RowWay rows z vs in
       let same : vs ≡ ns ++ k ∷ [] = way_only (subst R (sym e) wv) (down ne w) in (
         us ++ k ∷ [],
         down ne (subst Q (sym parent) (way_stays wu off)),
-        omega (arith, long, ap (along rows) same, sum_by_push (length_of H) us k, along_stays us off),
+        omega (arith, long, ap (along rows) same, sum_by_push (row_length H) us k, along_stays us off),
       ))
       (λ (other : k ≡ v → ⊥).
       ⊎_elim
       (λ (b : Among v ns).
       let r = way_moves h wu off wv nv w b in
-      let Q : ℕ → Type 0 = λ z. Way H z r.0 in (
+      let Q : ℕ → Type 0 = λ z. RowWay H z r.0 in (
         r.0 ++ k ∷ [],
         down ne (subst Q (sym (up_other k other)) r.1),
-        omega (arith, r.2, long_other k other, sum_by_push (length_of H) r.0 k, sum_by_push (length_of rows) ns k),
+        omega (arith, r.2, long_other k other, sum_by_push (row_length H) r.0 k, sum_by_push (row_length rows) ns k),
       ))
       (λ (b : Among v (k ∷ [])). absurd (other (sym (among_one b))))
       (among_either ns (k ∷ []) a))
       (cases_eq k v)
 
-module _ {rows : List Row} {v u : ℕ} (t : Tree rows) (l : ℕ) (g : Hangs rows v u) where
+module _ {rows : List Row} {v u : ℕ} (t : RowTree rows) (l : ℕ) (g : MayHang rows v u) where
   hang_up : (k : ℕ) → k < length (hang rows v u l) → up (hang rows v u l) k < length (hang rows v u l)
   hang_up k h =
       let n = hang_length rows v u l in
@@ -90,7 +90,7 @@ module _ {rows : List Row} {v u : ℕ} (t : Tree rows) (l : ℕ) (g : Hangs rows
       (λ (ne : k ≡ v → ⊥). omega (arith, n, up_other rows v u l k ne, t.parents k (omega (arith, n))))
       (cases_eq k v)
 
-  pub hang_tree : Tree (hang rows v u l)
+  pub hang_tree : RowTree (hang rows v u l)
   hang_tree =
       let n = hang_length rows v u l in
       let other : 0 ≡ v → ⊥ = λ e. g.moves (sym e) in
@@ -142,17 +142,17 @@ module _ {rows : List Row} {v u : ℕ} (t : Tree rows) (l : ℕ) (g : Hangs rows
       (cases_Bool (under rows k v))
 
 -- no length is above c then, if none was
-pub hang_lengths : (rows : List Row) (v u l c : ℕ) → v < length rows → l ≤ c → ((k : ℕ) → length_of rows k ≤ c) → (k : ℕ) → length_of (hang rows v u l) k ≤ c
+pub hang_lengths : (rows : List Row) (v u l c : ℕ) → v < length rows → l ≤ c → ((k : ℕ) → row_length rows k ≤ c) → (k : ℕ) → row_length (hang rows v u l) k ≤ c
 hang_lengths rows v u l c h m f k =
     ⊎_elim
-    (λ (e : k ≡ v). omega (arith, ap (length_of (hang rows v u l)) e, long_same rows v u l h))
+    (λ (e : k ≡ v). omega (arith, ap (row_length (hang rows v u l)) e, long_same rows v u l h))
     (λ (ne : k ≡ v → ⊥). omega (arith, long_other rows v u l k ne, f k))
     (cases_eq k v)
 
 -- every row stays on its spot
-pub hang_spot : (rows : List Row) (v u l k : ℕ) → v < length rows → spot_of (hang rows v u l) k ≡ spot_of rows k
+pub hang_spot : (rows : List Row) (v u l k : ℕ) → v < length rows → row_spot (hang rows v u l) k ≡ row_spot rows k
 hang_spot rows v u l k h =
     ⊎_elim
-    (λ (e : k ≡ v). ap (spot_of (hang rows v u l)) e ∙ ap (λ (r : Row). r.spot) (get_or-set_same rows v (moved rows v u l) blank h) ∙ ap (spot_of rows) (sym e))
+    (λ (e : k ≡ v). ap (row_spot (hang rows v u l)) e ∙ ap (λ (r : Row). r.spot) (get_or-set_same rows v (moved rows v u l) blank h) ∙ ap (row_spot rows) (sym e))
     (λ (ne : k ≡ v → ⊥). ap (λ (r : Row). r.spot) (get_or-set_other rows v k (moved rows v u l) blank ne))
     (cases_eq k v)

@@ -5,10 +5,10 @@ use Rattle.space.specs.Laws.{Metric, answered}
 use Rattle.space.specs.declared.Space.{Ghosts}
 use Rattle.space.specs.declared.spot.Spot.{Spot}
 use Rattle.tree_laws.specs.declared.Row.{Row}
-use Rattle.tree_laws.specs.Trees.{Tree, hang, length_of, spot_of, up}
+use Rattle.tree_laws.specs.Trees.{RowTree, hang, row_length, row_spot, up}
 use Rattle.tree_laws.proofs.Hanging.{hang_length, hang_spot, long_other, long_same, up_other, up_same}
 use Rattle.tree_laws.specs.declared.hook.Hook.{Hook}
-use Rattle.tree_laws.specs.Distances.{Measured, Settled, apart, distance_of}
+use Rattle.tree_laws.specs.Distances.{Measured, Settled, capped_row_distance, row_distance}
 use Rattle.tree_laws.specs.Hooks.{HookMove, hook_before}
 use Rattle.order.specs.Bests.{BestOf}
 
@@ -38,48 +38,48 @@ uncut x k true e l n = omega arith
 uncut x k false e l n = let z : ◌≡◌ {A = ℕ} 0 1 = cc in absurd (omega arith)
 
 module _ {X : Type 0} (G : Ghosts X) (s : X) (rows : List Row) (law : G.width s ≤ 100000000 → Metric (G.admitted s) (G.width s) (G.between s)) where
-  pub measured : Settled G s rows → (u v : ℕ) → u < length rows → v < length rows → apart G s rows u v ≡ distance_of G s rows u v
+  pub measured : Settled G s rows → (u v : ℕ) → u < length rows → v < length rows → capped_row_distance G s rows u v ≡ row_distance G s rows u v
   measured p u v h k =
       let a = p.admitted u h in
       let b = p.admitted v k in
-      let both : G.admitted s (spot_of rows u) && G.admitted s (spot_of rows v) ≡ true = rw (a, b) in
-      uncut (distance_of G s rows u v) (G.width s) (G.admitted s (spot_of rows u) && G.admitted s (spot_of rows v)) both ((law p.narrow).within (spot_of rows u) (spot_of rows v) a b) p.narrow
+      let both : G.admitted s (row_spot rows u) && G.admitted s (row_spot rows v) ≡ true = rw (a, b) in
+      uncut (row_distance G s rows u v) (G.width s) (G.admitted s (row_spot rows u) && G.admitted s (row_spot rows v)) both ((law p.narrow).within (row_spot rows u) (row_spot rows v) a b) p.narrow
 
   pub settled : Measured G s rows → Settled G s rows
   settled p = record { narrow = p.narrow; admitted = p.admitted }
 
   -- a row hung on another parent, at its distance from it, leaves the rows measured
-  pub hang_measured : Tree rows → (v u : ℕ) → v < length rows → u < length rows → Measured G s rows → Measured G s (hang rows v u (distance_of G s rows u v))
+  pub hang_measured : RowTree rows → (v u : ℕ) → v < length rows → u < length rows → Measured G s rows → Measured G s (hang rows v u (row_distance G s rows u v))
   hang_measured t v u hv hu p =
-      let l = distance_of G s rows u v in
+      let l = row_distance G s rows u v in
       let after = hang rows v u l in
-      let spot : (k : ℕ) → spot_of after k ≡ spot_of rows k = λ k. hang_spot rows v u l k hv in
+      let spot : (k : ℕ) → row_spot after k ≡ row_spot rows k = λ k. hang_spot rows v u l k hv in
       let n = hang_length rows v u l in
       record {
         narrow = p.narrow;
         admitted = λ k h. ap (λ (z : Spot). G.admitted s z) (spot k) ∙ p.admitted k (omega (arith, n));
         lengths = λ k h ne.
-            let at : (x : ℕ) → up after k ≡ x → length_of after k ≡ distance_of G s rows x k → length_of after k ≡ distance_of G s after (up after k) k =
-            λ x e q. q ∙ ap (λ (z : Spot). G.between s z (spot_of rows k)) (sym (ap (spot_of after) e ∙ spot x)) ∙ ap (G.between s (spot_of after (up after k))) (sym (spot k)) in
+            let at : (x : ℕ) → up after k ≡ x → row_length after k ≡ row_distance G s rows x k → row_length after k ≡ row_distance G s after (up after k) k =
+            λ x e q. q ∙ ap (λ (z : Spot). G.between s z (row_spot rows k)) (sym (ap (row_spot after) e ∙ spot x)) ∙ ap (G.between s (row_spot after (up after k))) (sym (spot k)) in
             ⊎_elim
-            (λ (e : k ≡ v). at u (ap (up after) e ∙ up_same rows v u l hv) (ap (length_of after) e ∙ long_same rows v u l hv ∙ ap (distance_of G s rows u) (sym e)))
+            (λ (e : k ≡ v). at u (ap (up after) e ∙ up_same rows v u l hv) (ap (row_length after) e ∙ long_same rows v u l hv ∙ ap (row_distance G s rows u) (sym e)))
             (λ (off : k ≡ v → ⊥). at (up rows k) (up_other rows v u l k off) (long_other rows v u l k off ∙ p.lengths k (omega (arith, n)) ne))
             (cases_eq k v);
       }
 
   -- a move by the cut distances is one by the space's own, and the other way round
-  pub move_own : Settled G s rows → (m : Hook) → HookMove rows (apart G s rows) m → HookMove rows (distance_of G s rows) m
+  pub move_own : Settled G s rows → (m : Hook) → HookMove rows (capped_row_distance G s rows) m → HookMove rows (row_distance G s rows) m
   unfolding Agree
-  move_own p m q = move_other rows (apart G s rows) (distance_of G s rows) (measured p) m q
+  move_own p m q = move_other rows (capped_row_distance G s rows) (row_distance G s rows) (measured p) m q
 
-  pub move_cut : Settled G s rows → (m : Hook) → HookMove rows (distance_of G s rows) m → HookMove rows (apart G s rows) m
+  pub move_cut : Settled G s rows → (m : Hook) → HookMove rows (row_distance G s rows) m → HookMove rows (capped_row_distance G s rows) m
   unfolding Agree
-  move_cut p m q = move_other rows (distance_of G s rows) (apart G s rows) (agree_back rows (apart G s rows) (distance_of G s rows) (measured p)) m q
+  move_cut p m q = move_other rows (row_distance G s rows) (capped_row_distance G s rows) (agree_back rows (capped_row_distance G s rows) (row_distance G s rows) (measured p)) m q
 
   -- the best by the cut distances is the best by the space's own
-  pub best_own : Settled G s rows → (o : Option Hook) → BestOf hook_before (HookMove rows (apart G s rows)) o → BestOf hook_before (HookMove rows (distance_of G s rows)) o
+  pub best_own : Settled G s rows → (o : Option Hook) → BestOf hook_before (HookMove rows (capped_row_distance G s rows)) o → BestOf hook_before (HookMove rows (row_distance G s rows)) o
   unfolding Agree
-  best_own p o b = best_other rows (apart G s rows) (distance_of G s rows) (measured p) o b
+  best_own p o b = best_other rows (capped_row_distance G s rows) (row_distance G s rows) (measured p) o b
 
   -- a row hung on another parent leaves the spots admitted
   pub hang_settled : (v u l : ℕ) → v < length rows → Settled G s rows → Settled G s (hang rows v u l)

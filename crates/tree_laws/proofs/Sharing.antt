@@ -5,29 +5,29 @@ use Rattle.order.specs.Firsts.{Among}
 use Rattle.order.proofs.Finding.{among_either, among_one}
 use Rattle.space.specs.declared.spot.Spot.{Spot}
 use Rattle.tree_laws.specs.declared.Row.{Row}
-use Rattle.tree_laws.specs.Trees.{Child, Tree, Way, Hangs, blank, length_of, spot_of, row_of, path_length, wire_of, hang, add, between}
+use Rattle.tree_laws.specs.Trees.{Child, RowTree, RowWay, MayHang, blank, row_length, row_spot, row_of, path_length, wire_of, hang, add, between}
 use Rattle.tree_laws.proofs.Ways.{placed, path_step, not_above, off_under}
 use Rattle.tree_laws.proofs.Hanging.{hang_length, hang_wire, hang_tree, hang_level, long_other, way_stays}
 use Rattle.tree_laws.proofs.Adding.{add_length, add_wire, add_old, add_new, add_tree, add_keeps, add_path, add_new_way}
 
-module _ {rows : List Row} (t : Tree rows) (v : ℕ) (hv : v < length rows) (z : Spot) (l a la b lb : ℕ) (ca : Child rows v a) (cb : Child rows v b) (apart : b ≡ a → ⊥) where
+module _ {rows : List Row} (t : RowTree rows) (v : ℕ) (hv : v < length rows) (z : Spot) (l a la b lb : ℕ) (ca : Child rows v a) (cb : Child rows v b) (apart : b ≡ a → ⊥) where
   -- a child of v does not stand on the way to the new row
   off : (c : ℕ) → Child rows v c → Among c ((placed t v hv).ways ++ length rows ∷ []) → ⊥
   off c k i =
       let p = placed t v hv in
-      let P : ℕ → Type 0 = λ x. Way rows x p.ways in
+      let P : ℕ → Type 0 = λ x. RowWay rows x p.ways in
       ⊎_elim
       (λ (j : Among c p.ways). not_above k.moves (subst P (sym k.parent) p.way) j)
       (λ (j : Among c (length rows ∷ [])). omega (arith, among_one j, k.row))
       (among_either p.ways (length rows ∷ []) i)
 
-  new_way : Way (add rows v z l) (length rows) ((placed t v hv).ways ++ length rows ∷ [])
+  new_way : RowWay (add rows v z l) (length rows) ((placed t v hv).ways ++ length rows ∷ [])
   new_way = add_new_way rows v z l t hv (placed t v hv).ways (placed t v hv).way
 
-  tree_one : Tree (add rows v z l)
+  tree_one : RowTree (add rows v z l)
   tree_one = add_tree rows v z l t hv
 
-  pub first_hangs : Hangs (add rows v z l) a (length rows)
+  pub first_hangs : MayHang (add rows v z l) a (length rows)
   first_hangs = record {
     row = omega (arith, add_length rows v z l, ca.row);
     moves = ca.moves;
@@ -35,10 +35,10 @@ module _ {rows : List Row} (t : Tree rows) (v : ℕ) (hv : v < length rows) (z :
     above = off_under tree_one new_way a (off a ca);
   }
 
-  tree_two : Tree (hang (add rows v z l) a (length rows) la)
+  tree_two : RowTree (hang (add rows v z l) a (length rows) la)
   tree_two = hang_tree tree_one la first_hangs
 
-  pub second_hangs : Hangs (hang (add rows v z l) a (length rows) la) b (length rows)
+  pub second_hangs : MayHang (hang (add rows v z l) a (length rows) la) b (length rows)
   second_hangs = record {
     row = omega (arith, hang_length (add rows v z l) a (length rows) la, add_length rows v z l, cb.row);
     moves = cb.moves;
@@ -46,7 +46,7 @@ module _ {rows : List Row} (t : Tree rows) (v : ℕ) (hv : v < length rows) (z :
     above = off_under tree_two (way_stays (add rows v z l) a (length rows) la new_way (off a ca)) b (off b cb);
   }
 
-  pub between_tree : Tree (between rows v z l a la b lb)
+  pub between_tree : RowTree (between rows v z l a la b lb)
   between_tree = hang_tree tree_two lb second_hangs
 
   -- ---- the rows
@@ -66,29 +66,29 @@ module _ {rows : List Row} (t : Tree rows) (v : ℕ) (hv : v < length rows) (z :
 
   pub between_other : (k : ℕ) → k < length rows → (k ≡ a → ⊥) → (k ≡ b → ⊥) → row_of (between rows v z l a la b lb) k ≡ row_of rows k
   between_other k h na nb =
-      get_or-set_other two b k (below (spot_of two b) lb) blank nb ∙ get_or-set_other one a k (below (spot_of one a) la) blank na ∙ add_old rows v z l k h
+      get_or-set_other two b k (below (row_spot two b) lb) blank nb ∙ get_or-set_other one a k (below (row_spot one a) la) blank na ∙ add_old rows v z l k h
 
   pub between_new : row_of (between rows v z l a la b lb) (length rows) ≡ record { parent = v; spot = z; length = l }
   between_new =
-      get_or-set_other two b (length rows) (below (spot_of two b) lb) blank (λ e. omega (arith, e, cb.row))
-      ∙ get_or-set_other one a (length rows) (below (spot_of one a) la) blank (λ e. omega (arith, e, ca.row))
+      get_or-set_other two b (length rows) (below (row_spot two b) lb) blank (λ e. omega (arith, e, cb.row))
+      ∙ get_or-set_other one a (length rows) (below (row_spot one a) la) blank (λ e. omega (arith, e, ca.row))
       ∙ add_new rows v z l
 
-  pub between_first : row_of (between rows v z l a la b lb) a ≡ record { parent = length rows; spot = spot_of rows a; length = la }
+  pub between_first : row_of (between rows v z l a la b lb) a ≡ record { parent = length rows; spot = row_spot rows a; length = la }
   between_first =
-      get_or-set_other two b a (below (spot_of two b) lb) blank (λ e. apart (sym e))
-      ∙ get_or-set_same one a (below (spot_of one a) la) blank first_hangs.row
+      get_or-set_other two b a (below (row_spot two b) lb) blank (λ e. apart (sym e))
+      ∙ get_or-set_same one a (below (row_spot one a) la) blank first_hangs.row
       ∙ ap (λ (r : Row). below r.spot la) (add_old rows v z l a ca.row)
 
-  pub between_second : row_of (between rows v z l a la b lb) b ≡ record { parent = length rows; spot = spot_of rows b; length = lb }
+  pub between_second : row_of (between rows v z l a la b lb) b ≡ record { parent = length rows; spot = row_spot rows b; length = lb }
   between_second =
-      get_or-set_same two b (below (spot_of two b) lb) blank second_hangs.row
-      ∙ ap (λ (r : Row). below r.spot lb) (get_or-set_other one a b (below (spot_of one a) la) blank apart ∙ add_old rows v z l b cb.row)
+      get_or-set_same two b (below (row_spot two b) lb) blank second_hangs.row
+      ∙ ap (λ (r : Row). below r.spot lb) (get_or-set_other one a b (below (row_spot one a) la) blank apart ∙ add_old rows v z l b cb.row)
 
   -- ---- where the new row lies on the ways from v to both
 
-  module _ (sa : l + la ≡ length_of rows a) (sb : l + lb ≡ length_of rows b) where
-    child_path : (c m : ℕ) → Child rows v c → l + m ≡ length_of rows c → path_length rows v + l + m ≡ path_length rows c
+  module _ (sa : l + la ≡ row_length rows a) (sb : l + lb ≡ row_length rows b) where
+    child_path : (c m : ℕ) → Child rows v c → l + m ≡ row_length rows c → path_length rows v + l + m ≡ path_length rows c
     child_path c m k e = omega (arith, path_step t c k.row k.moves, ap (path_length rows) k.parent, e)
 
     first_paths : (k : ℕ) → k < length rows + 1 → path_length (hang (add rows v z l) a (length rows) la) k ≡ path_length (add rows v z l) k

@@ -5,7 +5,7 @@ use Rattle.order.specs.Orders.{Order, then_by}
 use Rattle.order.specs.Lexical.{by_lower, greater_then, lower_then, no_ties}
 use Rattle.tree_laws.specs.declared.Row.{Row}
 use Rattle.tree_laws.specs.declared.hook.Hook.{Hook}
-use Rattle.tree_laws.specs.Trees.{Hangs, length_of, path_length}
+use Rattle.tree_laws.specs.Trees.{MayHang, row_length, path_length}
 
 -- The greater saving first, then the lower v, then the lower u.
 abbrev pub hook_before : (a b : Hook) → Bool
@@ -13,9 +13,9 @@ hook_before a b = then_by b.saving a.saving (then_by a.v b.v (nat_lt a.u b.u))
 
 -- A move hangs v on u, which is neither v nor under v, and no path grows. It saves the old length of v minus the new, 1 or more.
 pub record HookMove (rows : List Row) (d : ℕ → ℕ → ℕ) (m : Hook) : Type 0 where
-  pub hangs : Hangs rows m.v m.u
+  pub hangs : MayHang rows m.v m.u
   pub path : path_length rows m.u + d m.u m.v ≤ path_length rows m.v
-  pub saves : m.saving + d m.u m.v ≡ length_of rows m.v
+  pub saves : m.saving + d m.u m.v ≡ row_length rows m.v
   pub counts : 0 < m.saving
 
 -- ---- the order

@@ -7,7 +7,7 @@ use Rattle.order.specs.Lexical.{by_lower, greater_then, lower_then, no_ties}
 use Rattle.space.specs.declared.spot.Spot.{Spot}
 use Rattle.tree_laws.specs.declared.Row.{Row}
 use Rattle.tree_laws.specs.declared.share.Share.{Share}
-use Rattle.tree_laws.specs.Trees.{Child, between, spot_of}
+use Rattle.tree_laws.specs.Trees.{Child, between, row_spot}
 
 -- The greater saving first, then the lower v, then the lower a, then the lower b.
 abbrev pub share_before : (x y : Share) → Bool
@@ -15,7 +15,7 @@ share_before x y = then_by y.saving x.saving (then_by x.v y.v (then_by x.a y.a (
 
 -- The meet of the two children, seen from v.
 abbrev pub meet_of : List Row → (Spot → Spot → Spot → Spot) → Share → Spot
-meet_of rows j m = j (spot_of rows m.v) (spot_of rows m.a) (spot_of rows m.b)
+meet_of rows j m = j (row_spot rows m.v) (row_spot rows m.a) (row_spot rows m.b)
 
 -- A move puts the meet of two children a < b of v between v and both. It saves the distance of v and the meet, 1 or more.
 pub record ShareMove (rows : List Row) (d : Spot → Spot → ℕ) (j : Spot → Spot → Spot → Spot) (m : Share) : Type 0 where
@@ -23,13 +23,13 @@ pub record ShareMove (rows : List Row) (d : Spot → Spot → ℕ) (j : Spot →
   pub first : Child rows m.v m.a
   pub second : Child rows m.v m.b
   pub order : m.a < m.b
-  pub saves : m.saving ≡ d (spot_of rows m.v) (meet_of rows j m)
+  pub saves : m.saving ≡ d (row_spot rows m.v) (meet_of rows j m)
   pub counts : 0 < m.saving
 
 -- The rows after a move: the meet between v and both children.
 abbrev pub shared_by : List Row → (Spot → Spot → ℕ) → (Spot → Spot → Spot → Spot) → Share → List Row
 shared_by rows d j m =
-    between rows m.v (meet_of rows j m) (d (spot_of rows m.v) (meet_of rows j m)) m.a (d (meet_of rows j m) (spot_of rows m.a)) m.b (d (meet_of rows j m) (spot_of rows m.b))
+    between rows m.v (meet_of rows j m) (d (row_spot rows m.v) (meet_of rows j m)) m.a (d (meet_of rows j m) (row_spot rows m.a)) m.b (d (meet_of rows j m) (row_spot rows m.b))
 
 -- ---- the order
 

@@ -15,11 +15,11 @@ row_of rows k = slice_index_or rows k blank
 abbrev pub up : List Row → ℕ → ℕ
 up rows k = (row_of rows k).parent
 
-abbrev pub length_of : List Row → ℕ → ℕ
-length_of rows k = (row_of rows k).length
+abbrev pub row_length : List Row → ℕ → ℕ
+row_length rows k = (row_of rows k).length
 
-abbrev pub spot_of : List Row → ℕ → Spot
-spot_of rows k = (row_of rows k).spot
+abbrev pub row_spot : List Row → ℕ → Spot
+row_spot rows k = (row_of rows k).spot
 
 -- The row that is reached from k by going n times to the parent.
 abbrev pub climb : List Row → (n k : ℕ) → ℕ
@@ -29,7 +29,7 @@ climb rows (suc n) k = climb rows n (up rows k)
 -- The lengths from k up to the driver, over at most n rows.
 abbrev pub path_in : List Row → (n k : ℕ) → ℕ
 path_in rows zero k = 0
-path_in rows (suc n) k = cond (k == 0) 0 (length_of rows k + path_in rows n (up rows k))
+path_in rows (suc n) k = cond (k == 0) 0 (row_length rows k + path_in rows n (up rows k))
 
 -- The path of a row: the sum of the lengths from the driver down to it.
 abbrev pub path_length : List Row → ℕ → ℕ
@@ -48,33 +48,33 @@ abbrev pub under : List Row → (u v : ℕ) → Bool
 under rows u v = under_in rows (length rows) u v
 
 -- A tree: the driver is its own parent at length 0, every parent is a row, and every row comes up to the driver.
-pub record Tree (rows : List Row) : Type 0 where
+pub record RowTree (rows : List Row) : Type 0 where
   pub some : 0 < length rows
   pub driver : up rows 0 ≡ 0
-  pub still : length_of rows 0 ≡ 0
+  pub still : row_length rows 0 ≡ 0
   pub parents : (k : ℕ) → k < length rows → up rows k < length rows
   pub reaches : (k : ℕ) → k < length rows → climb rows (length rows) k ≡ 0
 
 -- The rows of a way from the driver down to k, each the parent of the next.
-pub data Way (rows : List Row) : (k : ℕ) → List ℕ → Type 0 where
-  home : Way rows 0 (0 ∷ [])
-  down : {k : ℕ} {ns : List ℕ} → (k ≢ 0) → Way rows (up rows k) ns → Way rows k (ns ++ k ∷ [])
+pub data RowWay (rows : List Row) : (k : ℕ) → List ℕ → Type 0 where
+  home : RowWay rows 0 (0 ∷ [])
+  down : {k : ℕ} {ns : List ℕ} → (k ≢ 0) → RowWay rows (up rows k) ns → RowWay rows k (ns ++ k ∷ [])
 
 -- The sum of the lengths of the rows of a way.
 abbrev pub along : List Row → List ℕ → ℕ
-along rows ns = sum_by (length_of rows) ns
+along rows ns = sum_by (row_length rows) ns
 
 -- Exactly one list of different rows begins with the driver and ends with k, each the parent of the next; its lengths are k's path.
-pub record Hung (rows : List Row) (k : ℕ) : Type 0 where
+pub record OnePath (rows : List Row) (k : ℕ) : Type 0 where
   pub rungs : List ℕ
-  pub way : Way rows k rungs
+  pub way : RowWay rows k rungs
   pub within : (x : ℕ) → Among x rungs → x < length rows
   pub different : Different rungs
-  pub only : (ns : List ℕ) → Way rows k ns → ns ≡ rungs
+  pub only : (ns : List ℕ) → RowWay rows k ns → ns ≡ rungs
   pub path : path_length rows k ≡ along rows rungs
 
 -- v can be hung on u: v is not the driver, and u is neither v nor under v.
-pub record Hangs (rows : List Row) (v u : ℕ) : Type 0 where
+pub record MayHang (rows : List Row) (v u : ℕ) : Type 0 where
   pub row : v < length rows
   pub moves : v ≡ 0 → ⊥
   pub parent : u < length rows
@@ -88,7 +88,7 @@ pub record Child (rows : List Row) (v c : ℕ) : Type 0 where
 
 -- Changes of a table: a row hung on another parent, and a row added.
 abbrev pub hang : List Row → (v u l : ℕ) → List Row
-hang rows v u l = slice_set rows v (record { parent = u; spot = spot_of rows v; length = l })
+hang rows v u l = slice_set rows v (record { parent = u; spot = row_spot rows v; length = l })
 
 abbrev pub add : List Row → (u : ℕ) (z : Spot) (l : ℕ) → List Row
 add rows u z l = rows ++ record { parent = u; spot = z; length = l } ∷ []

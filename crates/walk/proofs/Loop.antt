@@ -9,65 +9,65 @@ use Rattle.forest.specs.Growth.{Planted, Least, Nothing}
 use Rattle.forest.specs.Rooted.{size_of}
 use Rattle.forest.proofs.Accepted.{Accepted, accepted}
 use Rattle.walk_laws.specs.Walk as laws
-use Rattle.walk_laws.specs.Promise.{Guarantee}
+use Rattle.walk_laws.specs.Promise.{WalkGuarantee}
 use Rattle.walk_laws.proofs.Keeps.{walk_keeps_lem}
 use Rattle.walk_laws.proofs.Planting.{planted_spans, planted_fits}
 use Rattle.walk_laws.proofs.Seeing.{planted_seen}
 use Rattle.walk_laws.proofs.Looping.{Place, Rise, down_below, down_other, down_fits, down_room, place_down, climbs, place_start, place_end}
-use Rattle.walk.specs.declared.row.Row.{Row}
+use Rattle.walk.specs.declared.row.NodeRow.{NodeRow}
 use Rattle.walk.specs.Limits.{Low, highest}
-use Rattle.walk.specs.Marks.{idle, marks, froms, from_lengths, nexts, directs, rules_of, Places, Gone}
+use Rattle.walk.specs.Marks.{idle, marks, froms, from_lengths, nexts, directs, walk_rules, Places, Gone}
 use Rattle.walk.specs.Walked.{Ready, Walked}
 
-pub record Looping (p q pins n : ℕ) (E : List Edge) (first rows : List Row) (v step : ℕ) : Type 0 where
+pub record Looping (p q pins n : ℕ) (E : List Edge) (first rows : List NodeRow) (v step : ℕ) : Type 0 where
   pub planted : Planted n E
-  pub place : Place (rules_of p q pins first) n E planted.rank (2 * size_of planted.forest) highest (laws.walk (rules_of p q pins first) 0 planted.forest laws.start) (froms rows) (from_lengths rows) (nexts rows) (marks rows) v step
+  pub place : Place (walk_rules p q pins first) n E planted.rank (2 * size_of planted.forest) highest (laws.walk (walk_rules p q pins first) 0 planted.forest laws.start) (froms rows) (from_lengths rows) (nexts rows) (marks rows) v step
   pub count : length rows ≡ n
   pub direct : (x : ℕ) → directs rows x ≡ directs first x
 
-pub loop_start : (p q pins n : ℕ) (E : List Edge) (rows : List Row) → Sound n E → n ≤ NODES → Planted n E → Ready n rows → Looping p q pins n E rows rows 0 0
+pub loop_start : (p q pins n : ℕ) (E : List Edge) (rows : List NodeRow) → Sound n E → n ≤ NODES → Planted n E → Ready n rows → Looping p q pins n E rows rows 0 0
 loop_start p q pins n E rows s few T ready =
-    let P : laws.Table → Type 0 =
-    λ S. Place (rules_of p q pins rows) n E T.rank (2 * size_of T.forest) highest (laws.walk (rules_of p q pins rows) 0 T.forest laws.start) (froms rows) (from_lengths rows) (nexts rows) S 0 0 in
+    let P : laws.Marks → Type 0 =
+    λ S. Place (walk_rules p q pins rows) n E T.rank (2 * size_of T.forest) highest (laws.walk (walk_rules p q pins rows) 0 T.forest laws.start) (froms rows) (from_lengths rows) (nexts rows) S 0 0 in
     record {
       planted = T;
       place =
           subst P (sym ready.fresh)
-          (place_start (rules_of p q pins rows) n E T highest (froms rows) (from_lengths rows) (nexts rows) ready.from ready.next (planted_fits n E s T few));
+          (place_start (walk_rules p q pins rows) n E T highest (froms rows) (from_lengths rows) (nexts rows) ready.from ready.next (planted_fits n E s T few));
       count = ready.count;
       direct = λ x. refl;
     }
 
 -- The way down needs another node, and estimates that are not too large.
-pub record Down (rows : List Row) (v u l : ℕ) : Type 0 where
+pub record Down (rows : List NodeRow) (v u l : ℕ) : Type 0 where
   pub apart : u ≡ v → ⊥
   pub far : u < length rows
   pub told : Low (get_or rows v idle).mark.est l
   pub room : Low (laws.relax v u l (marks rows) u).est 0
 
 -- The way up too.
-pub record Up (rows : List Row) (v u l : ℕ) : Type 0 where
+pub record Up (rows : List NodeRow) (v u l : ℕ) : Type 0 where
   pub far : u < length rows
   pub told : Low (get_or rows v idle).mark.est l
 
-module _ {p q pins n : ℕ} {E : List Edge} {first rows : List Row} {v step : ℕ} (pos : 0 < q) (s : Sound n E) (L : Looping p q pins n E first rows v step) where
+module _ {p q pins n : ℕ} {E : List Edge} {first rows : List NodeRow} {v step : ℕ} (pos : 0 < q) (s : Sound n E) (L : Looping p q pins n E first rows v step) where
   abbrev R : laws.Rules
-  R = rules_of p q pins first
+  R = walk_rules p q pins first
 
   abbrev total : ℕ
   total = 2 * size_of L.planted.forest
 
-  abbrev final : laws.Table
+  abbrev final : laws.Marks
   final = laws.walk R 0 L.planted.forest laws.start
 
   acc : Accepted n E
   acc = accepted n E s
 
-  pub loop_end : step ≡ 2 * size_of L.planted.forest → Walked (rules_of p q pins first) n E (marks rows)
+  pub loop_end : step ≡ 2 * size_of L.planted.forest → Walked (walk_rules p q pins first) n E (marks rows)
   loop_end h =
       let A : ℕ → Type 0 = λ k. Place R n E L.planted.rank total highest final (froms rows) (from_lengths rows) (nexts rows) (marks rows) v k in
       let is : marks rows ≡ final = place_end pos acc (subst A h L.place) in
-      let T : laws.Table → Type 0 = λ S. Guarantee R n L.planted.forest S in
+      let T : laws.Marks → Type 0 = λ S. WalkGuarantee R n L.planted.forest S in
       record {
         planted = L.planted;
         seen = planted_seen n E s L.planted;
@@ -76,12 +76,12 @@ module _ {p q pins n : ℕ} {E : List Edge} {first rows : List Row} {v step : �
       }
 
   -- The row x was read at v.
-  module _ (x : Row) (read : x ≡ get_or rows v x) where
+  module _ (x : NodeRow) (read : x ≡ get_or rows v x) where
     at : x ≡ get_or rows v idle
     at = get_or_read rows v x (omega (arith, L.place.below, L.count)) read idle
 
     least : {u l : ℕ} → Least E v x.from x.next u l → Least E v (froms rows v) (nexts rows v) u l
-    least {u} {l} f = let P : Row → Type 0 = λ z. Least E v z.from z.next u l in subst P at f
+    least {u} {l} f = let P : NodeRow → Type 0 = λ z. Least E v z.from z.next u l in subst P at f
 
     pub loop_needs : {u l : ℕ} → Least E v x.from x.next u l → Down rows v u l
     loop_needs f =
@@ -93,13 +93,13 @@ module _ {p q pins n : ℕ} {E : List Edge} {first rows : List Row} {v step : �
           room = λ e h. omega (arith, down_room pos acc L.place found e h);
         }
 
-    pub loop_down : {u l : ℕ} → Least E v x.from x.next u l → (rows' : List Row) → Gone p q pins v u l rows rows' →
+    pub loop_down : {u l : ℕ} → Least E v x.from x.next u l → (rows' : List NodeRow) → Gone p q pins v u l rows rows' →
         Looping p q pins n E first rows' u (step + 1)
     loop_down {u} {l} f rows' g =
         let D : directs rows ≡ directs first = fun_ext (λ z. L.direct z) in
         let is : marks rows' ≡ laws.enter R u (laws.relax v u l (marks rows)) =
         g.marked ∙ ap (λ d. laws.enter (record { p = p; q = q; pins = pins; direct = d }) u (laws.relax v u l (marks rows))) D in
-        let T : laws.Table → Type 0 =
+        let T : laws.Marks → Type 0 =
         λ S. Place R n E L.planted.rank total highest final (froms rows') (from_lengths rows') (nexts rows') S u (step + 1) in
         record {
           planted = L.planted;
@@ -121,7 +121,7 @@ module _ {p q pins n : ℕ} {E : List Edge} {first rows : List Row} {v step : �
 
     rise : Nothing E v x.from x.next → step < total → Rise R n E L.planted.rank total highest final (froms rows) (from_lengths rows) (nexts rows) (marks rows) v step
     rise none early =
-        let P : Row → Type 0 = λ z. Nothing E v z.from z.next in
+        let P : NodeRow → Type 0 = λ z. Nothing E v z.from z.next in
         climbs pos acc L.place (subst P at none) early
 
     pub loop_rise : Nothing E v x.from x.next → step < 2 * size_of L.planted.forest → Up rows v x.from x.from_length
@@ -132,20 +132,20 @@ module _ {p q pins n : ℕ} {E : List Edge} {first rows : List Row} {v step : �
           told = λ e h. omega (arith, r.fits e h, ap (λ z. z.from_length) at);
         }
 
-    pub loop_up : Nothing E v x.from x.next → step < 2 * size_of L.planted.forest → (rows' : List Row) →
+    pub loop_up : Nothing E v x.from x.next → step < 2 * size_of L.planted.forest → (rows' : List NodeRow) →
         marks rows' ≡ laws.relax v x.from x.from_length (marks rows) → Places rows rows' →
         Looping p q pins n E first rows' x.from (step + 1)
     loop_up none early rows' is same =
-        let S : Row → laws.Table = λ z. laws.relax v z.from z.from_length (marks rows) in
+        let S : NodeRow → laws.Marks = λ z. laws.relax v z.from z.from_length (marks rows) in
         let A : (ℕ → ℕ) → Type 0 =
         λ f. Place R n E L.planted.rank total highest final f (from_lengths rows) (nexts rows) (S (get_or rows v idle)) (froms rows v) (step + 1) in
         let B : (ℕ → ℕ) → Type 0 =
         λ f. Place R n E L.planted.rank total highest final (froms rows') f (nexts rows) (S (get_or rows v idle)) (froms rows v) (step + 1) in
         let C : (ℕ → ℕ) → Type 0 =
         λ f. Place R n E L.planted.rank total highest final (froms rows') (from_lengths rows') f (S (get_or rows v idle)) (froms rows v) (step + 1) in
-        let D : Row → Type 0 =
+        let D : NodeRow → Type 0 =
         λ z. Place R n E L.planted.rank total highest final (froms rows') (from_lengths rows') (nexts rows') (S z) z.from (step + 1) in
-        let T : laws.Table → Type 0 =
+        let T : laws.Marks → Type 0 =
         λ t. Place R n E L.planted.rank total highest final (froms rows') (from_lengths rows') (nexts rows') t x.from (step + 1) in
         let F : froms rows ≡ froms rows' = fun_ext (λ z. sym (same.from z)) in
         let G : from_lengths rows ≡ from_lengths rows' = fun_ext (λ z. sym (same.from_length z)) in

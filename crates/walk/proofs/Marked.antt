@@ -5,22 +5,22 @@ use Rattle.std.proofs.lemmas.Bool.{cases_eq}
 use Rattle.walk_laws.specs.Walk as laws
 use Rattle.walk_laws.proofs.Steps.{put_same, put_other}
 use Rattle.walk.specs.declared.row.Mark.{Mark}
-use Rattle.walk.specs.declared.row.Row.{Row}
-use Rattle.walk.specs.Marks.{seen, idle, marks, directs, Places, Gone, entered_by, opened, rules_of}
+use Rattle.walk.specs.declared.row.NodeRow.{NodeRow}
+use Rattle.walk.specs.Marks.{mark_of, idle, marks, directs, Places, Gone, entered_by, opened, walk_rules}
 
-pub marks_set : (rows : List Row) (v : ℕ) (r : Row) → v < length rows → marks (set rows v r) ≡ laws.put (marks rows) v (seen r.mark)
+pub marks_set : (rows : List NodeRow) (v : ℕ) (r : NodeRow) → v < length rows → marks (set rows v r) ≡ laws.put (marks rows) v (mark_of r.mark)
 marks_set rows v r h = fun_ext (λ x. go x (cases_eq x v))
   where
-    go : (x : ℕ) → (x ≡ v) ⊎ (x ≡ v → ⊥) → marks (set rows v r) x ≡ laws.put (marks rows) v (seen r.mark) x
+    go : (x : ℕ) → (x ≡ v) ⊎ (x ≡ v → ⊥) → marks (set rows v r) x ≡ laws.put (marks rows) v (mark_of r.mark) x
     go x (inl s) =
         ap (λ z. marks (set rows v r) z) s ∙
-        (ap (λ w. seen w.mark) (get_or-set_same rows v r idle h) ∙
-        (sym (put_same (marks rows) v (seen r.mark)) ∙ sym (ap (laws.put (marks rows) v (seen r.mark)) s)))
+        (ap (λ w. mark_of w.mark) (get_or-set_same rows v r idle h) ∙
+        (sym (put_same (marks rows) v (mark_of r.mark)) ∙ sym (ap (laws.put (marks rows) v (mark_of r.mark)) s)))
     go x (inr ne) =
-        ap (λ w. seen w.mark) (get_or-set_other rows v x r idle ne) ∙ sym (put_other (marks rows) v (seen r.mark) x ne)
+        ap (λ w. mark_of w.mark) (get_or-set_other rows v x r idle ne) ∙ sym (put_other (marks rows) v (mark_of r.mark) x ne)
 
-pub relax_present : (rows : List Row) (u v l e : ℕ) (r : Row) → v < length rows → (get_or rows u idle).mark.est ≡ Some e →
-    seen r.mark ≡ laws.offered u l (e + l) (get_or rows v idle).mark.est (seen (get_or rows v idle).mark) →
+pub relax_present : (rows : List NodeRow) (u v l e : ℕ) (r : NodeRow) → v < length rows → (get_or rows u idle).mark.est ≡ Some e →
+    mark_of r.mark ≡ laws.offered u l (e + l) (get_or rows v idle).mark.est (mark_of (get_or rows v idle).mark) →
     marks (set rows v r) ≡ laws.relax u v l (marks rows)
 relax_present rows u v l e r h k n =
     marks_set rows v r h ∙
@@ -32,16 +32,16 @@ entered_by_lem : (R : laws.Rules) (v : ℕ) (o : Option ℕ) (m : laws.Mark) →
 entered_by_lem R v None m = refl
 entered_by_lem R v (Some e) m = refl
 
-pub enter_row : (rows : List Row) (p q pins v : ℕ) (r : Row) → v < length rows →
-    seen r.mark ≡
-    entered_by (laws.is_a_sink (rules_of p q pins rows) v) p q (directs rows v) (get_or rows v idle).mark.est (seen (get_or rows v idle).mark) →
-    marks (set rows v r) ≡ laws.enter (rules_of p q pins rows) v (marks rows)
+pub enter_row : (rows : List NodeRow) (p q pins v : ℕ) (r : NodeRow) → v < length rows →
+    mark_of r.mark ≡
+    entered_by (laws.is_a_sink (walk_rules p q pins rows) v) p q (directs rows v) (get_or rows v idle).mark.est (mark_of (get_or rows v idle).mark) →
+    marks (set rows v r) ≡ laws.enter (walk_rules p q pins rows) v (marks rows)
 enter_row rows p q pins v r h n =
     marks_set rows v r h ∙
-    ap (laws.put (marks rows) v) (n ∙ entered_by_lem (rules_of p q pins rows) v (marks rows v).est (marks rows v))
+    ap (laws.put (marks rows) v) (n ∙ entered_by_lem (walk_rules p q pins rows) v (marks rows v).est (marks rows v))
 
 -- A part of a row that is left as it was is left in all rows.
-pub part_set : {X : Type 0} (f : Row → X) (rows : List Row) (v : ℕ) (r : Row) → v < length rows → f r ≡ f (get_or rows v idle) → (x : ℕ) →
+pub part_set : {X : Type 0} (f : NodeRow → X) (rows : List NodeRow) (v : ℕ) (r : NodeRow) → v < length rows → f r ≡ f (get_or rows v idle) → (x : ℕ) →
     f (get_or (set rows v r) x idle) ≡ f (get_or rows x idle)
 part_set f rows v r h s x = go (cases_eq x v)
   where
@@ -52,18 +52,18 @@ part_set f rows v r h s x = go (cases_eq x v)
     go (inr ne) = ap f (get_or-set_other rows v x r idle ne)
 
 -- A row with the next child to try.
-abbrev pub stepped : Row → ℕ → Row
+abbrev pub stepped : NodeRow → ℕ → NodeRow
 stepped r k = record { mark = r.mark; direct = r.direct; from = r.from; from_length = r.from_length; next = k }
 
 -- The rows once u was relaxed from v, its row b read and put back with the mark m, and the row a of v read then.
-module _ (p q pins v u l : ℕ) (rows rows1 : List Row) (m : Mark) (a b : Row) (hv : v < length rows) (hu : u < length rows) (ne : u ≡ v → ⊥) (one : marks rows1 ≡ laws.relax v u l (marks rows)) (same : Places rows rows1) (to : b ≡ get_or rows1 u idle) (at : a ≡ get_or (set rows1 u (opened m b.direct v l)) v idle) where
-  abbrev row : Row
+module _ (p q pins v u l : ℕ) (rows rows1 : List NodeRow) (m : Mark) (a b : NodeRow) (hv : v < length rows) (hu : u < length rows) (ne : u ≡ v → ⊥) (one : marks rows1 ≡ laws.relax v u l (marks rows)) (same : Places rows rows1) (to : b ≡ get_or rows1 u idle) (at : a ≡ get_or (set rows1 u (opened m b.direct v l)) v idle) where
+  abbrev row : NodeRow
   row = opened m b.direct v l
 
-  abbrev rows2 : List Row
+  abbrev rows2 : List NodeRow
   rows2 = set rows1 u row
 
-  abbrev rows3 : List Row
+  abbrev rows3 : List NodeRow
   rows3 = set rows2 v (stepped a (u + 1))
 
   hu1 : u < length rows1
@@ -78,14 +78,14 @@ module _ (p q pins v u l : ℕ) (rows rows1 : List Row) (m : Mark) (a b : Row) (
   D : directs rows1 ≡ directs rows
   D = fun_ext (λ x. same.direct x)
 
-  pub gone_rows : seen m ≡ entered_by (laws.is_a_sink (rules_of p q pins rows1) u) p q b.direct b.mark.est (seen b.mark) → Gone p q pins v u l rows rows3
+  pub gone_rows : mark_of m ≡ entered_by (laws.is_a_sink (walk_rules p q pins rows1) u) p q b.direct b.mark.est (mark_of b.mark) → Gone p q pins v u l rows rows3
   gone_rows n =
       record {
         marked =
-            fun_ext (λ x. part_set (λ z. seen z.mark) rows2 v (stepped a (u + 1)) hv2 (ap (λ z. seen z.mark) at) x) ∙
-            enter_row rows1 p q pins u row hu1 (n ∙ ap (λ z. entered_by (laws.is_a_sink (rules_of p q pins rows1) u) p q z.direct z.mark.est (seen z.mark)) to) ∙
+            fun_ext (λ x. part_set (λ z. mark_of z.mark) rows2 v (stepped a (u + 1)) hv2 (ap (λ z. mark_of z.mark) at) x) ∙
+            enter_row rows1 p q pins u row hu1 (n ∙ ap (λ z. entered_by (laws.is_a_sink (walk_rules p q pins rows1) u) p q z.direct z.mark.est (mark_of z.mark)) to) ∙
             ap (λ d. laws.enter (record { p = p; q = q; pins = pins; direct = d }) u (marks rows1)) D ∙
-            ap (λ S. laws.enter (rules_of p q pins rows) u S) one;
+            ap (λ S. laws.enter (walk_rules p q pins rows) u S) one;
         count = length-set rows2 v (stepped a (u + 1)) ∙ length-set rows1 u row ∙ same.count;
         direct =
             λ x. part_set (λ z. z.direct) rows2 v (stepped a (u + 1)) hv2 (ap (λ z. z.direct) at) x ∙

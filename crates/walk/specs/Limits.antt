@@ -5,10 +5,6 @@ use Rattle.space.specs.declared.TheConstants.{LONGEST}
 use Rattle.seed.specs.declared.store.TheConstants.{NODES}
 use Rattle.walk.specs.declared.allowance.TheConstants.{ALLOWANCE_LIMIT}
 
--- What p and q of an allowance are.
-abbrev pub Within : (p q : ℕ) → Type 0
-Within p q = (p ≤ ALLOWANCE_LIMIT) × (1 ≤ q) × (q ≤ ALLOWANCE_LIMIT)
-
 -- The two numbers in decimal, with a slash (47) between them.
 abbrev pub ratio_text : (p q : ℕ) → List ℕ
 ratio_text p q = decimal p ++ 47 ∷ decimal q

@@ -1,6 +1,7 @@
 ghost use Rattle.std.specs.Prelude.{◌≡◌, ◌+◌, ◌*◌, ◌≤◌, MatchOption, Some, nat_lt};
 ghost use Rattle.space.specs.declared.TheConstants.{LONGEST};
-ghost use Rattle.walk.specs.Limits.{Within, highest, ratio_text};
+ghost use Rattle.walk_laws.specs.Walk.{LawfulAllowance};
+ghost use Rattle.walk.specs.Limits.{highest, ratio_text};
 
 use std::fmt;
 
@@ -13,7 +14,7 @@ pub const ALLOWANCE_LIMIT: u64 = 1000;
 pub struct Allowance {
     p: u64,
     q: u64,
-    ghost within: { Within p q },
+    ghost within: { LawfulAllowance p q },
 }
 
 // Two decimal numbers, `p/q`.
@@ -29,7 +30,7 @@ impl fmt::Display for Allowance {
 impl Allowance {
     /// The allowance p/q; `None` where p or q is above `ALLOWANCE_LIMIT`, or q is 0.
     pub fn new(p: u64, q: u64) -> Option<Allowance>
-        ensures { MatchOption result (Within p q → ⊥) (λ a. Within p q × (a.p ≡ p) × (a.q ≡ q)) }
+        ensures { MatchOption result (LawfulAllowance p q → ⊥) (λ a. LawfulAllowance p q × (a.p ≡ p) × (a.q ≡ q)) }
     {
         if p <= ALLOWANCE_LIMIT && 0 < q && q <= ALLOWANCE_LIMIT {
             Some(Allowance { p, q })

@@ -10,4 +10,4 @@ mod walking;
 
 pub use allowance::{ALLOWANCE_LIMIT, Allowance};
 pub use row::Mark;
-pub use table::{Table, WalkFault};
+pub use table::{Walk, WalkFault};

@@ -2,7 +2,7 @@ ghost use Rattle.std.specs.Prelude.{◌≡◌, ◌≤◌, ◌&&◌, nat_lt};
 ghost use Rattle.space.specs.declared.TheConstants.{LONGEST};
 ghost use Rattle.walk_laws.specs.Walk.{offered};
 ghost use Rattle.walk.specs.Limits.{Low};
-ghost use Rattle.walk.specs.Marks.{seen, entered_by, fresh_mark, fresh_row, opened};
+ghost use Rattle.walk.specs.Marks.{mark_of, entered_by, fresh_mark, fresh_row, opened};
 
 use crate::rules::Rules;
 
@@ -23,7 +23,7 @@ pub struct Mark {
 /// A node's mark and direct distance, and the walk's place there: where it came from, over an edge of which length, and the next child to
 /// try. The place lies in the rows, so that the walk needs no stack. The driver counts as entered from itself.
 #[derive(Clone, Copy, Debug, PartialEq, Eq, Drop)]
-pub(crate) struct Row {
+pub(crate) struct NodeRow {
     pub(crate) mark: Mark,
     pub(crate) direct: u64,
     pub(crate) from: usize,
@@ -45,7 +45,7 @@ impl Mark {
 
     /// The mark once u has offered the estimate e over an edge of length l.
     pub(crate) fn offered(self, u: usize, l: u64, e: u64) -> Mark
-        ensures { seen result ≡ offered u l e self.est (seen self) }
+        ensures { mark_of result ≡ offered u l e self.est (mark_of self) }
     {
         let better = self.est.is_none_or(|f| e < f || e == f && l < self.edge);
         if better {
@@ -64,8 +64,8 @@ impl Mark {
     pub(crate) fn entered(self, v: usize, direct: u64, rules: Rules) -> Mark
         requires near { direct ≤ LONGEST }
         requires room { Low self.est 0 }
-        ensures { seen result ≡ entered_by (nat_lt 0 v && nat_lt v rules.pins)
-            rules.allowance.p rules.allowance.q direct self.est (seen self) }
+        ensures { mark_of result ≡ entered_by (nat_lt 0 v && nat_lt v rules.pins)
+            rules.allowance.p rules.allowance.q direct self.est (mark_of self) }
     {
         match self.est {
             Some(e) if rules.breaks(v, direct, e) => Mark {
@@ -78,12 +78,12 @@ impl Mark {
     }
 }
 
-impl Row {
+impl NodeRow {
     /// The row of the node k before the walk.
-    pub(crate) fn fresh(k: usize, direct: u64) -> Row
+    pub(crate) fn fresh(k: usize, direct: u64) -> NodeRow
         ensures { result ≡ fresh_row k direct }
     {
-        Row {
+        NodeRow {
             mark: Mark::fresh(k),
             direct,
             from: 0,
@@ -96,8 +96,8 @@ impl Row {
     pub(crate) fn enter(&mut self, v: usize, from: usize, from_length: u64, rules: Rules)
         requires near { self.old.direct ≤ LONGEST }
         requires room { Low self.old.mark.est 0 }
-        ensures mark { seen self.new.mark ≡ entered_by (nat_lt 0 v && nat_lt v rules.pins)
-            rules.allowance.p rules.allowance.q self.old.direct self.old.mark.est (seen self.old.mark) }
+        ensures mark { mark_of self.new.mark ≡ entered_by (nat_lt 0 v && nat_lt v rules.pins)
+            rules.allowance.p rules.allowance.q self.old.direct self.old.mark.est (mark_of self.old.mark) }
         ensures place { self.new ≡ opened self.new.mark self.old.direct from from_length }
     {
         self.mark = self.mark.entered(v, self.direct, rules);

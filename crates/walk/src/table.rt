@@ -4,15 +4,16 @@ ghost use Rattle.seed.specs.declared.store.TheConstants.{NODES};
 ghost use Rattle.walk_laws.specs.Promise.{sum_to};
 ghost use Rattle.walk.specs.Marks.{directs, marks};
 
-use crate::row::{Mark, Row};
-use seed::{LONGEST, NODES};
+use crate::row::{Mark, NodeRow};
+use seed::NODES;
+use space::LONGEST;
 use std::alloc::{AllocError, Global};
 use thiserror::Error;
 
 /// A row for each node, numbered from 0: its direct distance from the driver, and what the walk knows of it.
 #[derive(Drop)]
-pub struct Table {
-    pub(crate) rows: Vec<Row>,
+pub struct Walk {
+    pub(crate) rows: Vec<NodeRow>,
     ghost room: { NODES ≤ vec_capacity rows },
     ghost few: { length rows.items ≤ NODES },
     ghost near: { (k : ℕ) → directs rows.items k ≤ LONGEST },
@@ -23,15 +24,15 @@ pub struct Table {
 #[error("there is not one row for each node of the seed")]
 pub struct WalkFault;
 
-impl Table {
-    ghost use Rattle.walk.specs.Tables.{Added, break_at, direct_at, mark_at, rows_of};
+impl Walk {
+    ghost use Rattle.walk.specs.Tables.{NodeRowAdded, break_at, direct_at, mark_at, rows_of};
 
     /// A table without rows. All memory that it will ever use is reserved here.
-    pub fn new(heap: Global) -> Result<Table, AllocError>
+    pub fn new(heap: Global) -> Result<Walk, AllocError>
         ensures { IfOk result (λ t. rows_of t ≡ []) }
     {
         let rows = Vec::with_capacity(heap, NODES)?;
-        Ok(Table { rows })
+        Ok(Walk { rows })
     }
 
     /// Drops all rows.
@@ -44,13 +45,13 @@ impl Table {
     /// Adds the row of one more node and answers its number; `None`, with the table as it was, where there are `NODES` rows or the
     /// direct distance is above `LONGEST`.
     pub fn add(&mut self, direct: u64) -> Option<usize>
-        ensures { Added self.old direct result self.new }
+        ensures { NodeRowAdded self.old direct result self.new }
     {
         let node = self.len();
         if node >= NODES || direct > LONGEST {
             return None;
         }
-        self.rows.push_reserved(Row::fresh(node, direct));
+        self.rows.push_reserved(NodeRow::fresh(node, direct));
         Some(node)
     }
 

@@ -4,15 +4,15 @@ ghost use Rattle.walk_laws.specs.Walk.{relax};
 ghost use Rattle.walk.specs.Limits.{Low};
 ghost use Rattle.walk.specs.Marks.{Gone, Places, idle, marks, rules_by};
 ghost use Rattle.walk.specs.Tables.{Renewed, rows_of};
-ghost use Rattle.walk.specs.Walked.{Kept, Ready, WalkedOver, rules_in};
+ghost use Rattle.walk.specs.Walked.{DirectsKept, Ready, WalkedOver, rules_in};
 
 use crate::allowance::Allowance;
-use crate::row::Row;
+use crate::row::NodeRow;
 use crate::rules::Rules;
-use crate::table::{Table, WalkFault};
+use crate::table::{Walk, WalkFault};
 use seed::SeedTree;
 
-impl Table {
+impl Walk {
     /// Walks over the seed from node 0, the driver, and leaves in each row what the walk makes of its node. The sinks are the nodes from
     /// 1 to `pins` - 1, and the others are Steiner points; any number is taken, so that from 0 or 1 pins there are no sinks, and from more
     /// pins than nodes every node but the driver is one. What an earlier walk left is forgotten first. Refused, with the table as it was,
@@ -26,7 +26,7 @@ impl Table {
         ensures taken { IsOk result ↔ (length (rows_of self.old) ≡ tree.now.seed.now.nodes) }
         ensures refused { OnErr result (self.new ≡ self.old) }
         ensures walked { OnOk result (WalkedOver (rules_in allowance pins self.old) tree.now.seed.now self.new) }
-        ensures kept { Kept (rows_of self.old) (rows_of self.new) }
+        ensures kept { DirectsKept (rows_of self.old) (rows_of self.new) }
     {
         if self.len() != tree.seed.nodes() {
             return Err(WalkFault);
@@ -41,7 +41,7 @@ impl Table {
         ensures { Renewed (rows_of self.old) (rows_of self.new) }
     {
         for (k, row) in self.rows.iter_mut().enumerate() {
-            *row = Row::fresh(k, row.direct);
+            *row = NodeRow::fresh(k, row.direct);
         }
     }
 
@@ -49,7 +49,7 @@ impl Table {
     fn take_steps(&mut self, tree: &SeedTree<'_>, rules: Rules)
         requires { Ready tree.now.seed.now.nodes (rows_of self.old) }
         ensures walked { WalkedOver (rules_by rules (rows_of self.old)) tree.now.seed.now self.new }
-        ensures kept { Kept (rows_of self.old) (rows_of self.new) }
+        ensures kept { DirectsKept (rows_of self.old) (rows_of self.new) }
     {
         let seed = tree.seed;
         let mut v = 0;

@@ -2,20 +2,20 @@
 use Rattle.std.proofs.Common.{◌≡◌, ℕ, ◌+◌, ◌*◌, ◌<◌, ◌≤◌, Bool, true, ◌&&◌, ltb, ◌⊎◌, Some, None, Option, sym, refl, ap, ◌∙◌, inl, inr, le_refl, mul-add, arith}
 use Rattle.std.proofs.lemmas.Bool.{cases_eq, cond_both, ltb-true, and_parts}
 use Rattle.forest.specs.Rooted.{Forest, none, kid, Ranked, wire_of, size_of}
-use Rattle.walk_laws.specs.Walk.{Mark, Table, Rules, is_a_sink, hung, start, relaxed, relax, entered, enter}
+use Rattle.walk_laws.specs.Walk.{Mark, Marks, Rules, is_a_sink, hung, start, relaxed, relax, entered, enter}
 use Rattle.walk_laws.specs.Promise.{Branch}
 use Rattle.walk_laws.proofs.Steps.{some_inj, start_est, put_same, Took, Kept, relax_at, relax_other, enter_other, down}
 use Rattle.walk_laws.proofs.Standing.{breaks_below}
 
 -- No estimate is above g.
-abbrev pub Bounded : ℕ → Table → Type 0
+abbrev pub Bounded : ℕ → Marks → Type 0
 Bounded g S = (y e : ℕ) → (S y).est ≡ Some e → e ≤ g
 
 pub start_bounded : Bounded 0 start
 start_bounded y e h = omega (arith, (start_est y e h (cases_eq y 0)).1)
 
 -- A step along an edge raises the bound by its length.
-pub relax_bounded : (u v l g : ℕ) (S : Table) → Bounded g S → Bounded (g + l) (relax u v l S)
+pub relax_bounded : (u v l g : ℕ) (S : Marks) → Bounded g S → Bounded (g + l) (relax u v l S)
 relax_bounded u v l g S b y e h = go (cases_eq y v)
   where
     took : (f : ℕ) → (S u).est ≡ Some f → (relax u v l S v).est ≡ Some e →
@@ -49,7 +49,7 @@ entered_le R q v m (Some f) h e n =
     below : (R.p + R.q) * R.direct v < R.q * f → R.direct v ≡ e → e ≤ f
     below l s = omega (arith, breaks_below R.p R.q (R.direct v) f q l)
 
-pub enter_bounded : (R : Rules) → 0 < R.q → (v g : ℕ) (S : Table) → Bounded g S → Bounded g (enter R v S)
+pub enter_bounded : (R : Rules) → 0 < R.q → (v g : ℕ) (S : Marks) → Bounded g S → Bounded g (enter R v S)
 enter_bounded R q v g S b y e h = go (cases_eq y v)
   where
     go : (y ≡ v) ⊎ (y ≡ v → ⊥) → e ≤ g
@@ -60,7 +60,7 @@ enter_bounded R q v g S b y e h = go (cases_eq y v)
         omega (arith, b v k.0 k.1, k.2)
     go (inr ne) = b y e (sym (ap (λ m. m.est) (enter_other R S v y ne)) ∙ h)
 
-pub down_bounded : (R : Rules) → 0 < R.q → (v u l g : ℕ) (S : Table) → Bounded g S → Bounded (g + l) (down R v u l S)
+pub down_bounded : (R : Rules) → 0 < R.q → (v u l g : ℕ) (S : Marks) → Bounded g S → Bounded (g + l) (down R v u l S)
 down_bounded R q v u l g S b = enter_bounded R q u (g + l) (relax v u l S) (relax_bounded v u l g S b)
 
 -- The wire of a forest whose edges are at most m long, and how many nodes it has.

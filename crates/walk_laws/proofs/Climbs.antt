@@ -1,7 +1,7 @@
 -- Going from parent to parent: how many steps that can take, and the lengths that add up on the way. Assumes nothing.
 use Rattle.std.proofs.Common.{◌≡◌, ℕ, zero, suc, ◌+◌, ◌<◌, ◌≤◌, true, false, cond, eqb, ltb, ◌⊎◌, Some, None, Option, sym, refl, ap, ◌∙◌, inl, inr, arith}
 use Rattle.std.proofs.lemmas.Bool.{cases_eq, cond-true, cond-false, cond_both, eq-eqb, ltb-true, lt-ltb, le-ltb}
-use Rattle.walk_laws.specs.Walk.{Table, Rules}
+use Rattle.walk_laws.specs.Walk.{Marks, Rules}
 use Rattle.walk_laws.specs.Promise.{sum_to, climb, Anchor}
 use Rattle.walk_laws.proofs.Sums.{sum_le}
 
@@ -24,7 +24,7 @@ under e None = 0
 under e (Some d) = cond (ltb d e) 1 0
 
 -- How many of the nodes below n have an estimate below e.
-abbrev pub lower : Table → (n e : ℕ) → ℕ
+abbrev pub lower : Marks → (n e : ℕ) → ℕ
 lower S n e = sum_to (λ v. under e (S v).est) n
 
 under_is : (d e : ℕ) → d < e → under e (Some d) ≡ 1
@@ -46,13 +46,13 @@ under_le d e h (Some x) =
     cond_both (ltb x d) 1 0 P (λ t. omega (arith, under_is x e (omega (arith, ltb-true x d t)))) (λ t. omega arith)
 
 -- A node w whose estimate is d, below e, is one more that is below e.
-pub lower_falls : (S : Table) (n d e w : ℕ) → w < n → (S w).est ≡ Some d → d < e → lower S n d < lower S n e
+pub lower_falls : (S : Marks) (n d e w : ℕ) → w < n → (S w).est ≡ Some d → d < e → lower S n d < lower S n e
 lower_falls S n d e w h t l =
     sum_lt (λ v. under d (S v).est) (λ v. under e (S v).est) n w h (λ k i. under_le d e (omega arith) (S k).est)
     (omega (arith, ap (under d) t, ap (under e) t, under_not d d (omega arith), under_is d e l))
 
 -- A node whose estimate is e is not below e.
-pub lower_fewer : (S : Table) (n e v : ℕ) → v < n → (S v).est ≡ Some e → lower S n e < n
+pub lower_fewer : (S : Marks) (n e v : ℕ) → v < n → (S v).est ≡ Some e → lower S n e < n
 lower_fewer S n e v h t =
     omega (
       arith,
@@ -62,11 +62,11 @@ lower_fewer S n e v h t =
     )
 
 -- The length of the way from v along at most `steps` parents, with a breakpoint's own wire from the driver at its end.
-pub way_by_climb : Rules → Table → (steps : ℕ) → ℕ → ℕ
+pub way_by_climb : Rules → Marks → (steps : ℕ) → ℕ → ℕ
 way_by_climb R S zero v = cond (eqb v 0) 0 (R.direct v)
 way_by_climb R S (suc k) v = cond (eqb v 0) 0 (cond (S v).broken (R.direct v) (way_by_climb R S k (S v).parent + (S v).edge))
 
-module _ (R : Rules) (S : Table) where
+module _ (R : Rules) (S : Marks) where
   pub way_driver : (k : ℕ) (v : ℕ) → v ≡ 0 → way_by_climb R S k v ≡ 0
   unfolding way_by_climb
   way_driver zero v h = cond-true (eqb v 0) 0 (R.direct v) (eq-eqb v 0 h)

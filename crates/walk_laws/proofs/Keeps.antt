@@ -2,8 +2,8 @@
 use Rattle.std.proofs.Common.{◌≡◌, ℕ, zero, suc, ◌+◌, ◌*◌, ◌<◌, ◌≤◌, true, false, cond, ◌||◌, eqb, ◌⊎◌, Some, sym, refl, ap, ◌∙◌, inl, inr, ⊎_elim, le_refl, mul-add, arith}
 use Rattle.std.proofs.lemmas.Bool.{cases_eq, cases_Bool, both_ways, cond-false, eq-eqb, ne_eqb, eqb-false}
 use Rattle.forest.specs.Rooted.{Forest, wire_of}
-use Rattle.walk_laws.specs.Walk.{Table, Rules, is_a_sink, hung, start, walk}
-use Rattle.walk_laws.specs.Promise.{Branch, Path, Spanning, Sink, Triangle, Spares, sum_to, owed_at, wire_at, Hangs, climb, Anchor, Ways, Guarantee, WalkKeeps}
+use Rattle.walk_laws.specs.Walk.{Marks, Rules, is_a_sink, hung, start, walk}
+use Rattle.walk_laws.specs.Promise.{Branch, PathLength, RootedTree, Sink, Triangle, Spares, sum_to, owed_at, wire_at, HangsOnNeighbour, climb, Anchor, Ways, WalkGuarantee, WalkKeeps}
 use Rattle.walk_laws.proofs.Steps.{some_inj, start_blank, start_est}
 use Rattle.walk_laws.proofs.Branches.{in_branch, ranked_up, branch_rank, branch_up}
 use Rattle.walk_laws.proofs.Sums.{sum_same, sum_none, sum_le}
@@ -16,7 +16,7 @@ start_owed : (R : Rules) (k : ℕ) → (k ≡ 0) ⊎ (k ≡ 0 → ⊥) → owed_
 start_owed R k (inl s) = ap (λ z. cond (start z).broken (R.direct k) 0) s
 start_owed R k (inr s) = ap (λ m. cond m.broken (R.direct k) 0) (start_blank k s)
 
-module _ (R : Rules) (n : ℕ) (rank : ℕ → ℕ) (F : Forest) (q : 0 < R.q) (T : Spanning n rank F) where
+module _ (R : Rules) (n : ℕ) (rank : ℕ → ℕ) (F : Forest) (q : 0 < R.q) (T : RootedTree n rank F) where
   pub start_standing : Standing R n rank F 1 0 0 start
   start_standing =
       record {
@@ -50,7 +50,7 @@ module _ (R : Rules) (n : ℕ) (rank : ℕ → ℕ) (F : Forest) (q : 0 < R.q) (
       let z : rank 0 < 1 = omega (arith, T.first) in
       ((branch_up n rank 1 F n T.ranked 0 u w l z first_below d).1, (branch_rank n rank 1 F n T.ranked 0 u w l d).2)
 
-  module _ (S : Table) (s : Standing R n rank F n (0 + 2 * wire_of F) 0 S) where
+  module _ (S : Marks) (s : Standing R n rank F n (0 + 2 * wire_of F) 0 S) where
     good : (v : ℕ) → v < n → (v ≡ 0 → ⊥) → Good R F S v (S v)
     good v h ne =
         let d = in_branch (T.all v h ne) 0 in
@@ -92,7 +92,7 @@ module _ (R : Rules) (n : ℕ) (rank : ℕ → ℕ) (F : Forest) (q : 0 < R.q) (
     positive v u l (inl d) = T.long u v l d
     positive v u l (inr d) = T.long v u l d
 
-    hangs : (v e : ℕ) → v < n → (v ≡ 0 → ⊥) → (S v).broken ≡ false → (S v).est ≡ Some e → Hangs F S v e
+    hangs : (v e : ℕ) → v < n → (v ≡ 0 → ⊥) → (S v).broken ≡ false → (S v).est ≡ Some e → HangsOnNeighbour F S v e
     hangs v e h ne nb t = go (good v h ne).link
       where
         G : Good R F S v (S v)
@@ -100,7 +100,7 @@ module _ (R : Rules) (n : ℕ) (rank : ℕ → ℕ) (F : Forest) (q : 0 < R.q) (
 
         go :
             (((S v).broken ≡ true) × (is_a_sink R v ≡ true) × (G.at ≤ R.direct v)) ⊎ (((S v).broken ≡ false) × HangsAt F S v (S v) G.at) →
-            Hangs F S v e
+            HangsOnNeighbour F S v e
         go (inl l) = absurd (both_ways (S v).broken nb l.0)
         go (inr l) =
             let same : G.at ≡ e = some_inj (sym G.told ∙ t) in
@@ -126,7 +126,7 @@ module _ (R : Rules) (n : ℕ) (rank : ℕ → ℕ) (F : Forest) (q : 0 < R.q) (
         go ih (inl z) b = (0, omega arith, inl z)
         go ih (inr ne) (inl b) = (0, omega arith, inr b)
         go ih (inr ne) (inr nb) =
-            let H : Hangs F S v e = hangs v e h ne nb t in
+            let H : HangsOnNeighbour F S v e = hangs v e h ne nb t in
             let w : (S v).parent < n = parent_below v H.neighbour in
             let k = ih (S v).parent H.above w H.told (omega (arith, H.falls)) in
             (suc k.0, omega (arith, k.1, lower_falls S n H.above e (S v).parent w H.told H.falls), k.2)
@@ -179,7 +179,7 @@ module _ (R : Rules) (n : ℕ) (rank : ℕ → ℕ) (F : Forest) (q : 0 < R.q) (
         go ih (inl z) b = omega (arith, ap path z, w.driver)
         go ih (inr ne) (inl b) = omega (arith, w.breakpoint v h b, s.near t d0 v e k)
         go ih (inr ne) (inr nb) =
-            let H : Hangs F S v e = hangs v e h ne nb k in
+            let H : HangsOnNeighbour F S v e = hangs v e h ne nb k in
             omega (
               arith,
               w.other v h ne nb,
@@ -201,8 +201,8 @@ module _ (R : Rules) (n : ℕ) (rank : ℕ → ℕ) (F : Forest) (q : 0 < R.q) (
     apart u w hu hw zw bw pw zu bu pu =
         let tu = told u hu in
         let tw = told w hw in
-        let Hw : Hangs F S w tw.0 = hangs w tw.0 hw (eqb-false w 0 zw) bw tw.1 in
-        let Hu : Hangs F S u tu.0 = hangs u tu.0 hu (eqb-false u 0 zu) bu tu.1 in
+        let Hw : HangsOnNeighbour F S w tw.0 = hangs w tw.0 hw (eqb-false w 0 zw) bw tw.1 in
+        let Hu : HangsOnNeighbour F S u tu.0 = hangs u tu.0 hu (eqb-false u 0 zu) bu tu.1 in
         let one : Hw.above ≡ tu.0 = some_inj (sym Hw.told ∙ (ap (λ x. (S x).est) pw ∙ tu.1)) in
         let two : Hu.above ≡ tw.0 = some_inj (sym Hu.told ∙ (ap (λ x. (S x).est) pu ∙ tw.1)) in
         omega (arith, one, two, Hw.falls, Hu.falls)
@@ -231,7 +231,7 @@ module _ (R : Rules) (n : ℕ) (rank : ℕ → ℕ) (F : Forest) (q : 0 < R.q) (
               (λ u w l d. hook_once S w u l (apart u w (ends_below u w l d).0 (ends_below u w l d).1)),
         )
 
-  spared : Spares R F → (u w l : ℕ) → Branch 0 F u w l → (d : ℕ) × Path 0 F w d × (walk R 0 F start w ≡ hung u l d false)
+  spared : Spares R F → (u w l : ℕ) → Branch 0 F u w l → (d : ℕ) × PathLength 0 F w d × (walk R 0 F start w ≡ hung u l d false)
   spared keeps u w l d = (walk_spares R n rank 1 F n 0 0 start T.ranked ready).marks u w l d
     where
       ready : Ready R rank 1 0 0 F start
@@ -252,9 +252,9 @@ module _ (R : Rules) (n : ℕ) (rank : ℕ → ℕ) (F : Forest) (q : 0 < R.q) (
       (λ (nz : v ≡ 0 → ⊥). let b = in_branch (T.all v h nz) 0 in ap (λ m. m.broken) (spared keeps b.0 v b.1 b.2).2)
       (cases_eq v 0)
 
-  pub guarantee : Guarantee R n F (walk R 0 F start)
+  pub guarantee : WalkGuarantee R n F (walk R 0 F start)
   guarantee =
-      let S : Table = walk R 0 F start in
+      let S : Marks = walk R 0 F start in
       let s : Standing R n rank F n (0 + 2 * wire_of F) 0 (walk R 0 F start) = walk_standing in
       record {
         driver = s.driver;

@@ -9,7 +9,7 @@ use Rattle.forest.specs.Rooted.{Forest, none, kid, wire_of, size_of, Ranked}
 use Rattle.forest.proofs.Accepted.{Accepted, start, more}
 use Rattle.forest.proofs.Chains.{near_none, near_cases, joined_one, joined_back, Newly}
 use Rattle.walk_laws.specs.Walk as laws
-use Rattle.walk_laws.specs.Walk.{Table, Rules, relax, walk}
+use Rattle.walk_laws.specs.Walk.{Marks, Rules, relax, walk}
 use Rattle.walk_laws.specs.Trail.{Trail, arrived, back, finish, steps_left, way_left}
 use Rattle.walk_laws.proofs.Steps.{down}
 use Rattle.walk_laws.proofs.Bounds.{Bounded, start_bounded, relax_bounded, down_bounded}
@@ -61,7 +61,7 @@ abbrev pub Open : (n : ℕ) → List Edge → (from from_length next : ℕ → �
 Open n E from from_length next u v l o = (from u ≡ v) × (from_length u ≡ l) × (v < n) × Grows E v (from v) (next v) o
 
 -- The loop stands at v after `done` of `total` steps, and will end with the table `final`. No estimate and no offer is above `limit`.
-pub record Place (R : Rules) (n : ℕ) (E : List Edge) (rank : ℕ → ℕ) (total limit : ℕ) (final : Table) (from from_length next : ℕ → ℕ) (S : Table) (v done : ℕ) : Type 0 where
+pub record Place (R : Rules) (n : ℕ) (E : List Edge) (rank : ℕ → ℕ) (total limit : ℕ) (final : Marks) (from from_length next : ℕ → ℕ) (S : Marks) (v done : ℕ) : Type 0 where
   pub left : Forest
   pub trail : Trail
   pub lo : ℕ
@@ -89,14 +89,14 @@ pub record Descent (v u l : ℕ) (from from_length next from' from_length' next'
   pub next_old : (x : ℕ) → (x ≡ u → ⊥) → (x ≡ v → ⊥) → next' x ≡ next x
 
 -- A step up from v.
-pub record Rise (R : Rules) (n : ℕ) (E : List Edge) (rank : ℕ → ℕ) (total limit : ℕ) (final : Table) (from from_length next : ℕ → ℕ) (S : Table) (v done : ℕ) : Type 0 where
+pub record Rise (R : Rules) (n : ℕ) (E : List Edge) (rank : ℕ → ℕ) (total limit : ℕ) (final : Marks) (from from_length next : ℕ → ℕ) (S : Marks) (v done : ℕ) : Type 0 where
   pub below : from v < n
   pub other : from v ≡ v → ⊥
   pub fits : (e : ℕ) → (S v).est ≡ Some e → e + from_length v ≤ limit
   pub place : Place R n E rank total limit final from from_length next (relax v (from v) (from_length v) S) (from v) (done + 1)
 
-module _ {R : Rules} {n : ℕ} {E : List Edge} {rank : ℕ → ℕ} {total limit : ℕ} {final : Table} (q : 0 < R.q) (acc : Accepted n E) where
-  module _ {from from_length next : ℕ → ℕ} {S : Table} {v done : ℕ} (P : Place R n E rank total limit final from from_length next S v done) {u l : ℕ} (found : Least E v (from v) (next v) u l) where
+module _ {R : Rules} {n : ℕ} {E : List Edge} {rank : ℕ → ℕ} {total limit : ℕ} {final : Marks} (q : 0 < R.q) (acc : Accepted n E) where
+  module _ {from from_length next : ℕ → ℕ} {S : Marks} {v done : ℕ} (P : Place R n E rank total limit final from from_length next S v done) {u l : ℕ} (found : Least E v (from v) (next v) u l) where
     next_kid : Next E v (from v) u l P.left
     next_kid = grows_next acc P.grows u l found
 
@@ -178,7 +178,7 @@ module _ {R : Rules} {n : ℕ} {E : List Edge} {rank : ℕ → ℕ} {total limit
             P.placed P.along
 
   -- Going up from v, where no child is left and steps are: to the node w that v was entered from, over the length l.
-  module _ {from from_length next : ℕ → ℕ} {S : Table} {v done : ℕ} (P : Place R n E rank total limit final from from_length next S v done) where
+  module _ {from from_length next : ℕ → ℕ} {S : Marks} {v done : ℕ} (P : Place R n E rank total limit final from from_length next S v done) where
     rise : (K : Trail) → P.trail ≡ K → P.left ≡ none → done < total → Rise R n E rank total limit final from from_length next S v done
     unfolding steps_left
     rise arrived is empty early = absurd (omega (arith, P.steps, ap (λ X. size_of X) empty, ap steps_left is))
@@ -228,7 +228,7 @@ module _ {R : Rules} {n : ℕ} {E : List Edge} {rank : ℕ → ℕ} {total limit
     climbs nothing early = rise P.trail refl (grows_none P.grows nothing) early
 
   -- All steps done: the table is the walk's.
-  pub place_end : {from from_length next : ℕ → ℕ} {S : Table} {v : ℕ} → Place R n E rank total limit final from from_length next S v total → S ≡ final
+  pub place_end : {from from_length next : ℕ → ℕ} {S : Marks} {v : ℕ} → Place R n E rank total limit final from from_length next S v total → S ≡ final
   place_end {S = S} {v} P =
       sym (steps_none R v P.trail P.left S (omega (arith, P.steps))) ∙ P.ends
 

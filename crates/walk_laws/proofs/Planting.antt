@@ -6,7 +6,7 @@ use Rattle.forest.specs.Growth.{Grows, Planted}
 use Rattle.forest.specs.Growth.Grows.{bare, grown}
 use Rattle.forest.specs.Rooted.{Forest, wire_of}
 use Rattle.forest.proofs.Accepted.{accepted, accepted_good}
-use Rattle.walk_laws.specs.Promise.{Branch, Spanning}
+use Rattle.walk_laws.specs.Promise.{Branch, RootedTree}
 use Rattle.walk_laws.proofs.Bounds.{way_fits}
 
 -- Each branch is an edge.
@@ -27,7 +27,7 @@ module _ (n : ℕ) (E : List Edge) (s : Sound n E) (P : Planted n E) where
       let g = accepted_good (accepted n E s) near.edge near.stands in
       (omega (arith, near.long, g.2), omega (arith, near.long, g.3))
 
-  pub planted_spans : Spanning n P.rank P.forest
+  pub planted_spans : RootedTree n P.rank P.forest
   planted_spans =
       record { ranked = P.ranked; first = P.root; all = P.all; long = λ x u l b. (branch_length x u l b).0 }
 

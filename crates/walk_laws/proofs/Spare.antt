@@ -2,8 +2,8 @@
 use Rattle.std.proofs.Common.{◌≡◌, ℕ, ◌+◌, ◌*◌, ◌<◌, ◌≤◌, true, false, ltb, ◌⊎◌, Some, sym, refl, ap, ◌∙◌, inl, inr, arith}
 use Rattle.std.proofs.lemmas.Bool.{cases_eq, ltb-true, lt-ltb, and_parts, and_from}
 use Rattle.forest.specs.Rooted.{Forest, none, kid, Ranked}
-use Rattle.walk_laws.specs.Walk.{Table, Rules, is_a_sink, hung, blank, relax, walk}
-use Rattle.walk_laws.specs.Promise.{Branch, Path, Sink}
+use Rattle.walk_laws.specs.Walk.{Marks, Rules, is_a_sink, hung, blank, relax, walk}
+use Rattle.walk_laws.specs.Promise.{Branch, PathLength, Sink}
 use Rattle.walk_laws.proofs.Steps.{Took, Kept, relax_at, relax_other, Within, Breaks, down, down_other, down_at}
 use Rattle.walk_laws.proofs.Branches.{ranked_up, branch_rank}
 
@@ -15,19 +15,19 @@ pub sink_is : (R : Rules) (v : ℕ) → Sink R v → is_a_sink R v ≡ true
 sink_is R v h = and_from (ltb 0 v) (ltb v R.pins) (lt-ltb 0 v h.0) (lt-ltb v R.pins h.1)
 
 -- The walk below v, which is e away from the driver, changes S to S': nodes of other ranks are left alone, and each node has its path and its parent.
-pub record Spared (rank : ℕ → ℕ) (lo hi v e : ℕ) (F : Forest) (S S' : Table) : Type 0 where
+pub record Spared (rank : ℕ → ℕ) (lo hi v e : ℕ) (F : Forest) (S S' : Marks) : Type 0 where
   pub frame : (y : ℕ) → (rank y < lo) ⊎ (hi ≤ rank y) → S' y ≡ S y
-  pub marks : (u w l : ℕ) → Branch v F u w l → (d : ℕ) × Path e F w d × (S' w ≡ hung u l d false)
+  pub marks : (u w l : ℕ) → Branch v F u w l → (d : ℕ) × PathLength e F w d × (S' w ≡ hung u l d false)
 
 -- What the walk below v needs: v is e away and comes before, all nodes to come are fresh, and all sinks to come keep the allowance.
-pub record Ready (R : Rules) (rank : ℕ → ℕ) (lo v e : ℕ) (F : Forest) (S : Table) : Type 0 where
+pub record Ready (R : Rules) (rank : ℕ → ℕ) (lo v e : ℕ) (F : Forest) (S : Marks) : Type 0 where
   pub told : (S v).est ≡ Some e
   pub before : rank v < lo
   pub fresh : (y : ℕ) → lo ≤ rank y → S y ≡ blank
-  pub keeps : (w d : ℕ) → Sink R w → Path e F w d → R.q * d ≤ (R.p + R.q) * R.direct w
+  pub keeps : (w d : ℕ) → Sink R w → PathLength e F w d → R.q * d ≤ (R.p + R.q) * R.direct w
   pub long : (u w l : ℕ) → Branch v F u w l → 0 < l
 
-module _ (R : Rules) (n : ℕ) (rank : ℕ → ℕ) (lo hi v e c k : ℕ) (b o : Forest) (r : Ranked n rank lo (kid c k b o) hi) (S : Table) (ready : Ready R rank lo v e (kid c k b o) S) where
+module _ (R : Rules) (n : ℕ) (rank : ℕ → ℕ) (lo hi v e c k : ℕ) (b o : Forest) (r : Ranked n rank lo (kid c k b o) hi) (S : Marks) (ready : Ready R rank lo v e (kid c k b o) S) where
   v≢c : v ≡ c → ⊥
   v≢c h = omega (arith, ap rank h, ready.before, r.1)
 
@@ -49,7 +49,7 @@ module _ (R : Rules) (n : ℕ) (rank : ℕ → ℕ) (lo hi v e c k : ℕ) (b o :
         long = λ u w l d. ready.long u w l (inr (inl d));
       }
 
-  module _ (S2 : Table) (below : Spared rank (lo + 1) r.2.0 c (e + k) b (down R v c k S) S2) where
+  module _ (S2 : Marks) (below : Spared rank (lo + 1) r.2.0 c (e + k) b (down R v c k S) S2) where
     was_v : S2 v ≡ S v
     was_v = below.frame v (inl (omega (arith, ready.before))) ∙ down_other R S v c k v v≢c
 
@@ -90,7 +90,7 @@ module _ (R : Rules) (n : ℕ) (rank : ℕ → ℕ) (lo hi v e c k : ℕ) (b o :
           long = λ u w l d. ready.long u w l (inr (inr d));
         }
 
-    spared_kid : (S4 : Table) → Spared rank r.2.0 hi v e o (relax c v k S2) S4 → Spared rank lo hi v e (kid c k b o) S S4
+    spared_kid : (S4 : Marks) → Spared rank r.2.0 hi v e o (relax c v k S2) S4 → Spared rank lo hi v e (kid c k b o) S S4
     spared_kid S4 others = record { frame = frame; marks = marks }
       where
         up' : r.2.0 ≤ hi
@@ -103,7 +103,7 @@ module _ (R : Rules) (n : ℕ) (rank : ℕ → ℕ) (lo hi v e c k : ℕ) (b o :
         frame y (inr h) =
             others.frame y (inr h) ∙ outside y (λ y≡c. omega (arith, ap rank y≡c, r.1, up, up')) (inr (omega (arith, up')))
 
-        marks : (u w l : ℕ) → Branch v (kid c k b o) u w l → (d : ℕ) × Path e (kid c k b o) w d × (S4 w ≡ hung u l d false)
+        marks : (u w l : ℕ) → Branch v (kid c k b o) u w l → (d : ℕ) × PathLength e (kid c k b o) w d × (S4 w ≡ hung u l d false)
         marks u w l (inl d) =
             let at : S4 c ≡ hung v k (e + k) false = others.frame c (inl (omega (arith, r.1, up))) ∙ (back c ∙ was_c) in
             let u≡v : u ≡ v = d.0 in
@@ -120,13 +120,13 @@ module _ (R : Rules) (n : ℕ) (rank : ℕ → ℕ) (lo hi v e c k : ℕ) (b o :
         marks u w l (inr (inr d)) =
             let m = others.marks u w l d in (m.0, inr (inr m.1), m.2)
 
-pub walk_spares : (R : Rules) (n : ℕ) (rank : ℕ → ℕ) (lo : ℕ) (F : Forest) (hi v e : ℕ) (S : Table) → Ranked n rank lo F hi →
+pub walk_spares : (R : Rules) (n : ℕ) (rank : ℕ → ℕ) (lo : ℕ) (F : Forest) (hi v e : ℕ) (S : Marks) → Ranked n rank lo F hi →
     Ready R rank lo v e F S → Spared rank lo hi v e F S (walk R v F S)
 unfolding walk
 walk_spares R n rank lo none hi v e S r ready = record { frame = λ y h. refl; marks = λ u w l d. absurd d }
 walk_spares R n rank lo (kid c k b o) hi v e S r ready =
-    let S1 : Table = down R v c k S in
-    let S2 : Table = walk R c b S1 in
+    let S1 : Marks = down R v c k S in
+    let S2 : Marks = walk R c b S1 in
     let below = walk_spares R n rank (lo + 1) b r.2.0 c (e + k) S1 r.2.1 (ready_below R n rank lo hi v e c k b o r S ready) in
     let others =
     walk_spares R n rank r.2.0 o hi v e (relax c v k S2) r.2.2 (ready_others R n rank lo hi v e c k b o r S ready S2 below) in

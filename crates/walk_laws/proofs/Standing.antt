@@ -3,21 +3,21 @@ use Rattle.std.proofs.Common.{◌≡◌, ℕ, ◌+◌, ◌*◌, ◌<◌, ◌≤�
 use mathlib.Core.Path.{fun_ext}
 use Rattle.std.proofs.lemmas.Bool.{cases_eq, cases_lt}
 use Rattle.forest.specs.Rooted.{Forest, none, kid, Ranked, wire_of}
-use Rattle.walk_laws.specs.Walk.{Mark, Table, Rules, is_a_sink, hung, blank, home, relax, walk}
-use Rattle.walk_laws.specs.Promise.{Branch, Spanning, Triangle, sum_to, owed_at}
+use Rattle.walk_laws.specs.Walk.{Mark, Marks, Rules, is_a_sink, hung, blank, home, relax, walk}
+use Rattle.walk_laws.specs.Promise.{Branch, RootedTree, Triangle, sum_to, owed_at}
 use Rattle.walk_laws.proofs.Steps.{some_inj, none_some, Took, Kept, relax_at, relax_other, Within, Breaks, down, down_other, down_at}
 use Rattle.walk_laws.proofs.Branches.{branch_rank, branch_same, branch_up, branch_above}
 use Rattle.walk_laws.proofs.Sums.{sum_same, sum_change}
 
 -- The node v, with the mark m and the estimate e, hangs on a neighbour that is at least its edge nearer.
-pub record HangsAt (F : Forest) (S : Table) (v : ℕ) (m : Mark) (e : ℕ) : Type 0 where
+pub record HangsAt (F : Forest) (S : Marks) (v : ℕ) (m : Mark) (e : ℕ) : Type 0 where
   pub neighbour : Branch 0 F m.parent v m.edge ⊎ Branch 0 F v m.parent m.edge
   pub above : ℕ
   pub told : (S m.parent).est ≡ Some above
   pub room : above + m.edge ≤ e
 
 -- A node w that was entered, with the mark m.
-pub record Good (R : Rules) (F : Forest) (S : Table) (w : ℕ) (m : Mark) : Type 0 where
+pub record Good (R : Rules) (F : Forest) (S : Marks) (w : ℕ) (m : Mark) : Type 0 where
   pub at : ℕ
   pub told : m.est ≡ Some at
   pub allowed : is_a_sink R w ≡ true → R.q * at ≤ (R.p + R.q) * R.direct w
@@ -25,7 +25,7 @@ pub record Good (R : Rules) (F : Forest) (S : Table) (w : ℕ) (m : Mark) : Type
       ((m.broken ≡ true) × (is_a_sink R w ≡ true) × (at ≤ R.direct w)) ⊎ ((m.broken ≡ false) × HangsAt F S w m at)
 
 -- The walk stands at x, has gone g, and the next node that it enters has rank r.
-pub record Standing (R : Rules) (n : ℕ) (rank : ℕ → ℕ) (F : Forest) (r g x : ℕ) (S : Table) : Type 0 where
+pub record Standing (R : Rules) (n : ℕ) (rank : ℕ → ℕ) (F : Forest) (r g x : ℕ) (S : Marks) : Type 0 where
   pub driver : S 0 ≡ home
   pub fresh : (y : ℕ) → r ≤ rank y → S y ≡ blank
   pub good : (u w k : ℕ) → Branch 0 F u w k → rank w < r → Good R F S w (S w)
@@ -36,10 +36,10 @@ pub record Standing (R : Rules) (n : ℕ) (rank : ℕ → ℕ) (F : Forest) (r g
   pub owes : R.q * here + R.p * sum_to (owed_at R S) n ≤ R.q * g
 
 -- No estimate of S is lost or grows in S'.
-abbrev pub Falls : Table → Table → Type 0
+abbrev pub Falls : Marks → Marks → Type 0
 Falls S S' = (z f : ℕ) → (S z).est ≡ Some f → (f' : ℕ) × ((S' z).est ≡ Some f') × (f' ≤ f)
 
-pub good_falls : (R : Rules) (F : Forest) (S S' : Table) → Falls S S' → (w : ℕ) (m : Mark) → Good R F S w m → Good R F S' w m
+pub good_falls : (R : Rules) (F : Forest) (S S' : Marks) → Falls S S' → (w : ℕ) (m : Mark) → Good R F S w m → Good R F S' w m
 good_falls R F S S' falls w m G =
     record { at = G.at; told = G.told; allowed = G.allowed; link = go G.link }
   where
@@ -99,9 +99,9 @@ owes_more : (p q here l g e c o o' : ℕ) → q * here + p * o ≤ q * g → q *
 owes_more p q here l g e c o o' h k s =
     omega (arith, h, k, mul-add q here l, mul-add q g l, ap (λ x. p * x) s, mul-add p o c)
 
-module _ (R : Rules) (n : ℕ) (rank : ℕ → ℕ) (F : Forest) (T : Spanning n rank F) where
+module _ (R : Rules) (n : ℕ) (rank : ℕ → ℕ) (F : Forest) (T : RootedTree n rank F) where
   -- A step down to u, which was fresh.
-  pub down_stands : (v u l r g : ℕ) (S S' : Table) → Branch 0 F v u l → rank u ≡ r → (s : Standing R n rank F r g v S) →
+  pub down_stands : (v u l r g : ℕ) (S S' : Marks) → Branch 0 F v u l → rank u ≡ r → (s : Standing R n rank F r g v S) →
       ((x : ℕ) → (x ≡ u → ⊥) → S' x ≡ S x) → (e : ℕ) (b : Bool) → S' u ≡ hung v l e b → Entered R u (s.here + l) b e →
       Standing R n rank F (r + 1) (g + l) u S'
   down_stands v u l r g S S' edge ru s other e b new ent =
@@ -172,7 +172,7 @@ module _ (R : Rules) (n : ℕ) (rank : ℕ → ℕ) (F : Forest) (T : Spanning n
           omega (arith, c, ap (λ m. cond m.broken (R.direct u) 0) was, ap (λ m. cond m.broken (R.direct u) 0) new)
 
   -- A step up to v that changes nothing.
-  pub stay_stands : (v u l r g : ℕ) (S : Table) → (s : Standing R n rank F r g u S) → (f : ℕ) → (S v).est ≡ Some f → f ≤ s.here + l →
+  pub stay_stands : (v u l r g : ℕ) (S : Marks) → (s : Standing R n rank F r g u S) → (f : ℕ) → (S v).est ≡ Some f → f ≤ s.here + l →
       Standing R n rank F r (g + l) v S
   stay_stands v u l r g S s f told le =
       record {
@@ -189,7 +189,7 @@ module _ (R : Rules) (n : ℕ) (rank : ℕ → ℕ) (F : Forest) (T : Spanning n
       }
 
   -- A step up to v, which takes u for its parent.
-  pub take_stands : (v u l r g : ℕ) (S S' : Table) → Branch 0 F v u l → (s : Standing R n rank F r g u S) →
+  pub take_stands : (v u l r g : ℕ) (S S' : Marks) → Branch 0 F v u l → (s : Standing R n rank F r g u S) →
       ((x : ℕ) → (x ≡ v → ⊥) → S' x ≡ S x) → Took u l s.here (S v) (S' v) → Standing R n rank F r (g + l) v S'
   take_stands v u l r g S S' edge s other took =
       record {
@@ -304,7 +304,7 @@ module _ (R : Rules) (n : ℕ) (rank : ℕ → ℕ) (F : Forest) (T : Spanning n
       owed = sum_same (owed_at R S') (owed_at R S) n (λ k _. same_owed k (cases_eq k v))
 
   -- Each step down and each step up keeps it.
-  pub standing_down : 0 < R.q → (v u l : ℕ) → Branch 0 F v u l → (r g : ℕ) (S : Table) → rank u ≡ r → Standing R n rank F r g v S →
+  pub standing_down : 0 < R.q → (v u l : ℕ) → Branch 0 F v u l → (r g : ℕ) (S : Marks) → rank u ≡ r → Standing R n rank F r g v S →
       Standing R n rank F (r + 1) (g + l) u (down R v u l S)
   standing_down q v u l edge r g S ru s =
       go (down_at R S v u l s.here s.told (s.fresh u (omega arith)))
@@ -318,7 +318,7 @@ module _ (R : Rules) (n : ℕ) (rank : ℕ → ℕ) (F : Forest) (T : Spanning n
           down_stands v u l r g S (down R v u l S) edge ru s (down_other R S v u l) (R.direct u) true w.0
           (entered_breaks R q v u l s.here (down R v u l S u) w)
 
-  pub standing_up : (v u l : ℕ) → Branch 0 F v u l → (r g : ℕ) (S : Table) → Standing R n rank F r g u S →
+  pub standing_up : (v u l : ℕ) → Branch 0 F v u l → (r g : ℕ) (S : Marks) → Standing R n rank F r g u S →
       Standing R n rank F r (g + l) v (relax u v l S)
   standing_up v u l edge r g S s = go (relax_at S u v l s.here s.told)
     where
@@ -330,15 +330,15 @@ module _ (R : Rules) (n : ℕ) (rank : ℕ → ℕ) (F : Forest) (T : Spanning n
           Standing R n rank F r (g + l) v (relax u v l S)
       go (inl t) = take_stands v u l r g S (relax u v l S) edge s (relax_other S u v l) t
       go (inr k) =
-          let P : Table → Type 0 = λ X. Standing R n rank F r (g + l) v X in
+          let P : Marks → Type 0 = λ X. Standing R n rank F r (g + l) v X in
           subst P (fun_ext (λ x. same k.0 x (cases_eq x v))) (stay_stands v u l r g S s k.1.0 k.1.1 k.1.2)
 
 -- What each step of the walk keeps, the walk keeps. I is a property of the next rank, the way gone, the place and the table.
 module _ (R : Rules) (n : ℕ) (rank : ℕ → ℕ) (T : Forest) where
-  pub walk_by : (I : ℕ → ℕ → ℕ → Table → Type 0) →
-      ((v u l : ℕ) → Branch 0 T v u l → (r g : ℕ) (S : Table) → rank u ≡ r → I r g v S → I (r + 1) (g + l) u (down R v u l S)) →
-      ((v u l : ℕ) → Branch 0 T v u l → (r g : ℕ) (S : Table) → I r g u S → I r (g + l) v (relax u v l S)) →
-      (F : Forest) (v lo hi g : ℕ) (S : Table) → ((x w k : ℕ) → Branch v F x w k → Branch 0 T x w k) → Ranked n rank lo F hi →
+  pub walk_by : (I : ℕ → ℕ → ℕ → Marks → Type 0) →
+      ((v u l : ℕ) → Branch 0 T v u l → (r g : ℕ) (S : Marks) → rank u ≡ r → I r g v S → I (r + 1) (g + l) u (down R v u l S)) →
+      ((v u l : ℕ) → Branch 0 T v u l → (r g : ℕ) (S : Marks) → I r g u S → I r (g + l) v (relax u v l S)) →
+      (F : Forest) (v lo hi g : ℕ) (S : Marks) → ((x w k : ℕ) → Branch v F x w k → Branch 0 T x w k) → Ranked n rank lo F hi →
       I lo g v S → I hi (g + 2 * wire_of F) v (walk R v F S)
   unfolding walk
   walk_by I dn up none v lo hi g S sub r i =
@@ -350,9 +350,9 @@ module _ (R : Rules) (n : ℕ) (rank : ℕ → ℕ) (T : Forest) where
       let edge = sub v u l (inl (refl, refl, refl)) in
       let mid : ℕ = r.2.0 in
       let one = dn v u l edge lo g S r.1 i in
-      let S1 : Table = down R v u l S in
+      let S1 : Marks = down R v u l S in
       let two = walk_by I dn up b u (lo + 1) mid (g + l) S1 (λ x w k e. sub x w k (inr (inl e))) r.2.1 one in
-      let S2 : Table = walk R u b S1 in
+      let S2 : Marks = walk R u b S1 in
       let g2 : ℕ = g + l + 2 * wire_of b in
       let three = up v u l edge mid g2 S2 two in
       let four = walk_by I dn up o v mid hi (g2 + l) (relax u v l S2) (λ x w k e. sub x w k (inr (inr e))) r.2.2 three in

@@ -1,7 +1,7 @@
 -- What one step of the walk does to the table: the mark that it changes, by cases, and the others. Assumes that the node that relaxes has an estimate.
 use Rattle.std.proofs.Common.{◌≡◌, ℕ, ◌+◌, ◌*◌, ◌<◌, ◌≤◌, Bool, true, false, cond, ◌&&◌, eqb, ltb, ◌⊎◌, Some, None, Option, sym, refl, ap, ◌∙◌, subst, inl, inr, arith}
 use Rattle.std.proofs.lemmas.Bool.{cond-true, cond-false, cond_both, eq-eqb, ne_eqb, eqb-true, ltb-true, ltb-false, and_parts, and_cases, both_ways}
-use Rattle.walk_laws.specs.Walk.{Mark, Table, Rules, is_a_sink, hung, blank, home, start, put, offered, relaxed, relax, entered, enter}
+use Rattle.walk_laws.specs.Walk.{Mark, Marks, Rules, is_a_sink, hung, blank, home, start, put, offered, relaxed, relax, entered, enter}
 
 pub some_inj : {a b : ℕ} → Some a ≡ Some b → a ≡ b
 some_inj h = cc
@@ -9,10 +9,10 @@ some_inj h = cc
 pub none_some : {a : ℕ} → None ≡ Some a → ⊥
 none_some {a} h = let z : ◌≡◌ {A = ℕ} 0 1 = cc in omega arith
 
-pub put_same : (S : Table) (v : ℕ) (m : Mark) → put S v m v ≡ m
+pub put_same : (S : Marks) (v : ℕ) (m : Mark) → put S v m v ≡ m
 put_same S v m = cond-true (eqb v v) m (S v) (eq-eqb v v refl)
 
-pub put_other : (S : Table) (v : ℕ) (m : Mark) (x : ℕ) → (x ≡ v → ⊥) → put S v m x ≡ S x
+pub put_other : (S : Marks) (v : ℕ) (m : Mark) (x : ℕ) → (x ≡ v → ⊥) → put S v m x ≡ S x
 put_other S v m x ne = cond-false (eqb x v) m (S x) (ne_eqb x v ne)
 
 -- The node takes the offer, which is no larger than its estimate; or it keeps its mark, whose estimate is no larger than the offer.
@@ -37,7 +37,7 @@ offered_cases u l e m (Some f) h =
     inl (ap (λ x. hung u l x m.broken) (sym same), λ g k. omega (arith, same, some_inj (sym h ∙ k))))
     (λ s. inr (refl, (f, h, ltb-false (e + l) f t))))
 
-pub relax_at : (S : Table) (u v l e : ℕ) → (S u).est ≡ Some e →
+pub relax_at : (S : Marks) (u v l e : ℕ) → (S u).est ≡ Some e →
     Took u l e (S v) (relax u v l S v) ⊎ Kept l e (S v) (relax u v l S v)
 relax_at S u v l e h =
     let P : Mark → Type 0 = λ x. Took u l e (S v) x ⊎ Kept l e (S v) x in
@@ -45,10 +45,10 @@ relax_at S u v l e h =
     (sym (put_same S v (relaxed u l (S u).est (S v)) ∙ ap (λ o. relaxed u l o (S v)) h))
     (offered_cases u l e (S v) (S v).est refl)
 
-pub relax_other : (S : Table) (u v l x : ℕ) → (x ≡ v → ⊥) → relax u v l S x ≡ S x
+pub relax_other : (S : Marks) (u v l x : ℕ) → (x ≡ v → ⊥) → relax u v l S x ≡ S x
 relax_other S u v l x ne = put_other S v (relaxed u l (S u).est (S v)) x ne
 
-pub enter_other : (R : Rules) (S : Table) (v x : ℕ) → (x ≡ v → ⊥) → enter R v S x ≡ S x
+pub enter_other : (R : Rules) (S : Marks) (v x : ℕ) → (x ≡ v → ⊥) → enter R v S x ≡ S x
 enter_other R S v x ne = put_other S v (entered R v (S v).est (S v)) x ne
 
 -- Going down from v to a node u that has no mark yet: it is within its allowance, or it becomes a breakpoint.
@@ -60,13 +60,13 @@ abbrev pub Breaks : Rules → (v u l e : ℕ) → Mark → Type 0
 Breaks R v u l e m =
     (m ≡ hung v l (R.direct u) true) × (is_a_sink R u ≡ true) × ((R.p + R.q) * R.direct u < R.q * (e + l))
 
-abbrev pub down : Rules → (v u l : ℕ) → Table → Table
+abbrev pub down : Rules → (v u l : ℕ) → Marks → Marks
 down R v u l S = enter R u (relax v u l S)
 
-pub down_other : (R : Rules) (S : Table) (v u l x : ℕ) → (x ≡ u → ⊥) → down R v u l S x ≡ S x
+pub down_other : (R : Rules) (S : Marks) (v u l x : ℕ) → (x ≡ u → ⊥) → down R v u l S x ≡ S x
 down_other R S v u l x ne = enter_other R (relax v u l S) u x ne ∙ relax_other S v u l x ne
 
-pub down_at : (R : Rules) (S : Table) (v u l e : ℕ) → (S v).est ≡ Some e → S u ≡ blank →
+pub down_at : (R : Rules) (S : Marks) (v u l e : ℕ) → (S v).est ≡ Some e → S u ≡ blank →
     Within R v u l e (down R v u l S u) ⊎ Breaks R v u l e (down R v u l S u)
 down_at R S v u l e h fresh =
     let P : Mark → Type 0 = λ x. Within R v u l e x ⊎ Breaks R v u l e x in

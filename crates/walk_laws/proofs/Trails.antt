@@ -1,24 +1,24 @@
 -- The walk by single steps. Assumes nothing.
 use Rattle.std.proofs.Common.{◌≡◌, ℕ, ◌+◌, ◌*◌, ◌<◌, refl, arith}
 use Rattle.forest.specs.Rooted.{Forest, none, kid, Ranked, wire_of, size_of}
-use Rattle.walk_laws.specs.Walk.{Table, Rules, relax, walk}
+use Rattle.walk_laws.specs.Walk.{Marks, Rules, relax, walk}
 use Rattle.walk_laws.specs.Trail.{Trail, arrived, back, finish, steps_left, way_left}
 use Rattle.walk_laws.proofs.Steps.{down}
 
 -- One step down, to the next child.
-pub finish_down : (R : Rules) (v u l : ℕ) (b o : Forest) (K : Trail) (S : Table) →
+pub finish_down : (R : Rules) (v u l : ℕ) (b o : Forest) (K : Trail) (S : Marks) →
     finish R v K (walk R v (kid u l b o) S) ≡ finish R u (back v l o K) (walk R u b (down R v u l S))
 unfolding walk finish
 finish_down R v u l b o K S = refl
 
 -- One step up, where no child is left.
-pub finish_up : (R : Rules) (v u l : ℕ) (o : Forest) (K : Trail) (S : Table) →
+pub finish_up : (R : Rules) (v u l : ℕ) (o : Forest) (K : Trail) (S : Marks) →
     finish R u (back v l o K) (walk R u none S) ≡ finish R v K (walk R v o (relax u v l S))
 unfolding walk finish
 finish_up R v u l o K S = refl
 
 -- At the start.
-pub finish_start : (R : Rules) (v : ℕ) (F : Forest) (S : Table) → finish R v arrived (walk R v F S) ≡ walk R v F S
+pub finish_start : (R : Rules) (v : ℕ) (F : Forest) (S : Marks) → finish R v arrived (walk R v F S) ≡ walk R v F S
 unfolding finish
 finish_start R v F S = refl
 
@@ -44,7 +44,7 @@ unfolding way_left
 way_up v l o K = omega arith
 
 -- With no step left the walk is done.
-pub steps_none : (R : Rules) (v : ℕ) (K : Trail) (F : Forest) (S : Table) → steps_left K + 2 * size_of F ≡ 0 →
+pub steps_none : (R : Rules) (v : ℕ) (K : Trail) (F : Forest) (S : Marks) → steps_left K + 2 * size_of F ≡ 0 →
     finish R v K (walk R v F S) ≡ S
 unfolding steps_left walk finish
 steps_none R v arrived none S h = refl

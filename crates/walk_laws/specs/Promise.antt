@@ -4,7 +4,7 @@ use Rattle.forest.specs.Edges.{Near}
 use Rattle.forest.specs.Growth.{Grows}
 use Rattle.forest.specs.Rooted.{Forest, none, kid, wire_of, Ranked, In}
 use Rattle.forest.specs.declared.Edge.{Edge}
-use Rattle.walk_laws.specs.Walk.{Table, Rules, start, hung, walk}
+use Rattle.walk_laws.specs.Walk.{Marks, Rules, start, hung, walk}
 
 -- In the forest that hangs on v, the node w has the parent u, over an edge of length l.
 abbrev pub Branch : (v : ℕ) → Forest → (u w l : ℕ) → Type 0
@@ -19,12 +19,12 @@ pub record SeenFrom (n : ℕ) (E : List Edge) (F : Forest) : Type 0 where
   pub only : (G : Forest) → Grows E 0 0 0 G → G ≡ F
 
 -- In the forest that hangs on a node e away from the driver along the seed, the node w is d away.
-abbrev pub Path : (e : ℕ) → Forest → (w d : ℕ) → Type 0
-Path e none w d = ⊥
-Path e (kid c k below others) w d = ((w ≡ c) × (d ≡ e + k)) ⊎ (Path (e + k) below w d ⊎ Path e others w d)
+abbrev pub PathLength : (e : ℕ) → Forest → (w d : ℕ) → Type 0
+PathLength e none w d = ⊥
+PathLength e (kid c k below others) w d = ((w ≡ c) × (d ≡ e + k)) ⊎ (PathLength (e + k) below w d ⊎ PathLength e others w d)
 
 -- A seed that is a tree on the nodes below n, rooted at the driver: each node but the driver stands in it once, and no edge has length 0.
-pub record Spanning (n : ℕ) (rank : ℕ → ℕ) (F : Forest) : Type 0 where
+pub record RootedTree (n : ℕ) (rank : ℕ → ℕ) (F : Forest) : Type 0 where
   pub ranked : Ranked n rank 1 F n
   pub first : rank 0 ≡ 0
   pub all : (v : ℕ) → v < n → (v ≢ 0) → In v F
@@ -40,7 +40,7 @@ Triangle R F =
 
 -- Each sink's path in the seed keeps the allowance.
 abbrev pub Spares : Rules → Forest → Type 0
-Spares R F = (v d : ℕ) → Sink R v → Path 0 F v d → R.q * d ≤ (R.p + R.q) * R.direct v
+Spares R F = (v d : ℕ) → Sink R v → PathLength 0 F v d → R.q * d ≤ (R.p + R.q) * R.direct v
 
 -- The sum of f over the nodes below n.
 abbrev pub sum_to : (ℕ → ℕ) → ℕ → ℕ
@@ -48,14 +48,14 @@ sum_to f zero = 0
 sum_to f (suc n) = sum_to f n + f n
 
 -- What a breakpoint's own wire from the driver costs, and what any other node's edge to its parent costs.
-abbrev pub owed_at : Rules → Table → ℕ → ℕ
+abbrev pub owed_at : Rules → Marks → ℕ → ℕ
 owed_at R S v = cond (S v).broken (R.direct v) 0
 
-abbrev pub wire_at : Table → ℕ → ℕ
+abbrev pub wire_at : Marks → ℕ → ℕ
 wire_at S v = cond (v == 0 || (S v).broken) 0 (S v).edge
 
 -- The node v, with the estimate e, hangs on a neighbour in the seed whose estimate leaves room for their edge.
-pub record Hangs (F : Forest) (S : Table) (v e : ℕ) : Type 0 where
+pub record HangsOnNeighbour (F : Forest) (S : Marks) (v e : ℕ) : Type 0 where
   pub neighbour : Branch 0 F (S v).parent v (S v).edge ⊎ Branch 0 F v (S v).parent (S v).edge
   pub above : ℕ
   pub told : (S (S v).parent).est ≡ Some above
@@ -63,22 +63,22 @@ pub record Hangs (F : Forest) (S : Table) (v e : ℕ) : Type 0 where
   pub falls : above < e
 
 -- The node that is reached from v by going k times to the parent.
-abbrev pub climb : Table → (k : ℕ) → ℕ → ℕ
+abbrev pub climb : Marks → (k : ℕ) → ℕ → ℕ
 climb S zero v = v
 climb S (suc k) v = climb S k (S v).parent
 
 -- A driver or a breakpoint.
-abbrev pub Anchor : Table → ℕ → Type 0
+abbrev pub Anchor : Marks → ℕ → Type 0
 Anchor S v = (v ≡ 0) ⊎ ((S v).broken ≡ true)
 
 -- The lengths of the ways along the parents, where each breakpoint has a wire of its own from the driver.
-pub record Ways (R : Rules) (n : ℕ) (S : Table) (path : ℕ → ℕ) : Type 0 where
+pub record Ways (R : Rules) (n : ℕ) (S : Marks) (path : ℕ → ℕ) : Type 0 where
   pub driver : path 0 ≡ 0
   pub breakpoint : (v : ℕ) → v < n → (S v).broken ≡ true → path v ≡ R.direct v
   pub other : (v : ℕ) → v < n → (v ≢ 0) → (S v).broken ≡ false → path v ≡ path (S v).parent + (S v).edge
 
 -- What holds of the table S once the walk over the seed F on the nodes below n is done.
-pub record Guarantee (R : Rules) (n : ℕ) (F : Forest) (S : Table) : Type 0 where
+pub record WalkGuarantee (R : Rules) (n : ℕ) (F : Forest) (S : Marks) : Type 0 where
   -- the driver stays where it was, at 0 and nobody's child
   pub driver : S 0 ≡ start 0
   -- each node has an estimate, no larger than the way of the whole walk
@@ -88,7 +88,7 @@ pub record Guarantee (R : Rules) (n : ℕ) (F : Forest) (S : Table) : Type 0 whe
   -- only sinks are breakpoints
   pub sinks : (v : ℕ) → v < n → (S v).broken ≡ true → Sink R v
   -- each other node hangs on a neighbour, and its parents lead to the driver or a breakpoint in fewer steps than there are nodes: never round in a ring
-  pub hangs : (v e : ℕ) → v < n → (v ≢ 0) → (S v).broken ≡ false → (S v).est ≡ Some e → Hangs F S v e
+  pub hangs : (v e : ℕ) → v < n → (v ≢ 0) → (S v).broken ≡ false → (S v).est ≡ Some e → HangsOnNeighbour F S v e
   pub ends : (v : ℕ) → v < n → (k : ℕ) × (k < n) × Anchor S (climb S k v)
   -- so the ways along the parents have lengths
   pub paths : (path : ℕ → ℕ) × Ways R n S path
@@ -101,10 +101,10 @@ pub record Guarantee (R : Rules) (n : ℕ) (F : Forest) (S : Table) : Type 0 whe
   pub owed : R.p * sum_to (owed_at R S) n ≤ 2 * (R.q * wire_of F)
   pub wire : sum_to (wire_at S) n ≤ wire_of F
   -- a seed that keeps the allowance itself is kept edge for edge
-  pub spared : Spares R F → (u w l : ℕ) → Branch 0 F u w l → (d : ℕ) × Path 0 F w d × (S w ≡ hung u l d false)
+  pub spared : Spares R F → (u w l : ℕ) → Branch 0 F u w l → (d : ℕ) × PathLength 0 F w d × (S w ≡ hung u l d false)
   pub unbroken : Spares R F → (v : ℕ) → v < n → (S v).broken ≡ false
 
 -- The guarantee, whole.
 abbrev pub WalkKeeps : Type 0
 WalkKeeps =
-    (R : Rules) (n : ℕ) (rank : ℕ → ℕ) (F : Forest) → 0 < R.q → Spanning n rank F → Guarantee R n F (walk R 0 F start)
+    (R : Rules) (n : ℕ) (rank : ℕ → ℕ) (F : Forest) → 0 < R.q → RootedTree n rank F → WalkGuarantee R n F (walk R 0 F start)

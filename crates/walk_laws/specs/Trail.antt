@@ -1,7 +1,7 @@
 -- The walk cut into single steps: what is left to do at any moment. Assumes nothing.
 use Rattle.std.specs.Prelude.{ℕ, ◌+◌, ◌*◌}
 use Rattle.forest.specs.Rooted.{Forest, wire_of, size_of}
-use Rattle.walk_laws.specs.Walk.{Rules, Table, relax, walk}
+use Rattle.walk_laws.specs.Walk.{Rules, Marks, relax, walk}
 
 -- The way back from a node to the driver: the node's parent v, the length of the edge to it, the children of v that are still to come, and the way back from v.
 pub data Trail : Type 0 where
@@ -9,7 +9,7 @@ pub data Trail : Type 0 where
   back : (v l : ℕ) (others : Forest) (rest : Trail) → Trail
 
 -- What the walk still does once all below u is done.
-unfoldable pub finish : Rules → ℕ → Trail → Table → Table
+unfoldable pub finish : Rules → ℕ → Trail → Marks → Marks
 finish R u arrived S = S
 finish R u (back v l others rest) S = finish R v rest (walk R v others (relax u v l S))
 

@@ -9,8 +9,8 @@ pub record Mark : Type 0 where
   pub edge : ℕ
   pub broken : Bool
 
-abbrev pub Table : Type 0
-Table = ℕ → Mark
+abbrev pub Marks : Type 0
+Marks = ℕ → Mark
 
 -- What p and q of an allowance are.
 abbrev pub LawfulAllowance : (p q : ℕ) → Type 0
@@ -38,11 +38,11 @@ blank = record { est = None; parent = 0; edge = 0; broken = false }
 abbrev pub home : Mark
 home = hung 0 0 0 false
 
-abbrev pub start : Table
+abbrev pub start : Marks
 start v = cond (v == 0) home blank
 
 -- The table with the mark m at the node v.
-abbrev pub put : Table → ℕ → Mark → Table
+abbrev pub put : Marks → ℕ → Mark → Marks
 put S v m x = cond (x == v) m (S x)
 
 -- The node with mark m is offered the estimate e by u, over an edge of length l. It takes a smaller one, or an equal one over a shorter edge.
@@ -59,7 +59,7 @@ relaxed u l None m = m
 relaxed u l (Some e) m = offered u l (e + l) m.est m
 
 -- The node u relaxes the node v over their edge of length l.
-abbrev pub relax : (u v l : ℕ) → Table → Table
+abbrev pub relax : (u v l : ℕ) → Marks → Marks
 relax u v l S = put S v (relaxed u l (S u).est (S v))
 
 -- The node v is entered: a sink whose estimate is above the allowance becomes a breakpoint, at its distance from the driver.
@@ -71,10 +71,10 @@ entered R v (Some e) m =
     (hung m.parent m.edge (R.direct v) true)
     m
 
-abbrev pub enter : Rules → ℕ → Table → Table
+abbrev pub enter : Rules → ℕ → Marks → Marks
 enter R v S = put S v (entered R v (S v).est (S v))
 
 -- The walk below v: each child in turn is relaxed from v and entered, the walk goes on below it, and on the way back it relaxes v.
-unfoldable pub walk : Rules → ℕ → Forest → Table → Table
+unfoldable pub walk : Rules → ℕ → Forest → Marks → Marks
 walk R v none S = S
 walk R v (kid u l below others) S = walk R v others (relax u v l (walk R u below (enter R u (relax v u l S))))

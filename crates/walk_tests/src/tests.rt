@@ -3,7 +3,7 @@ ghost use Rattle.std.specs.Prelude.{ℕ, ◌<◌, ◌≤◌};
 use seed::Seed;
 use std::alloc::Global;
 use std::test::Fail;
-use walk::{Allowance, Table, WalkFault};
+use walk::{Allowance, Walk, WalkFault};
 
 // One more edge, and one more row with its direct distance.
 #[derive(Clone, Copy)]
@@ -18,7 +18,7 @@ struct Grown {
 #[derive(Drop)]
 struct Net {
     seed: Seed,
-    table: Table,
+    table: Walk,
 }
 
 // Ten times the number.
@@ -30,7 +30,7 @@ impl Net {
     // Neither nodes nor rows.
     fn new(heap: Global) -> Result<Net, Fail> {
         let seed = Seed::new(heap)?;
-        let table = Table::new(heap)?;
+        let table = Walk::new(heap)?;
         Ok(Net { seed, table })
     }
 

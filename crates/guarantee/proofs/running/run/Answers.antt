@@ -3,19 +3,19 @@ use Rattle.std.proofs.lemmas.List.{map_more, take_more_set}
 use Rattle.net_laws.specs.Answers.{JoinAnswers}
 use Rattle.net_laws.specs.declared.call.JoinCall.{JoinCall}
 use Rattle.net_laws.specs.declared.fault.Fault.{Fault}
-use Rattle.guarantee.specs.Kept.{Kept}
+use Rattle.guarantee.specs.CallsMade.{CallsMade}
 use Rattle.guarantee.proofs.Making.{kept_more, kept_none, rest_more}
 use Rattle.guarantee.proofs.running.run.Goals as goal
 
 pub loop-i-init : goal.loop-i-init
 loop-i-init g c =
     let s = c.args.net.now.space in
-    (kept_none (g.C.NetCall.world s) (g.met.C.NetCall.keeps s) c.args.net.now.state, λ k d h. refl, refl)
+    (kept_none (g.C.NetCall.geometry s) (g.met.C.NetCall.keeps s) c.args.net.now.state, λ k d h. refl, refl)
 
 pub loop-i-preserved : goal.loop-i-preserved
 loop-i-preserved g c =
     let s = c.args.net.now.space in
-    let W = g.C.NetCall.world in
+    let W = g.C.NetCall.geometry in
     let among : g.row.C.Denot → JoinCall = g.C.NetCall.among in
     let i = c.loop-i.i in
     let calls = c.args.calls.now in
@@ -30,8 +30,8 @@ loop-i-preserved g c =
     let k : i < length xs = omega (arith, c.min-count.ensures, c.loop-i.auto.answers, c.loop-i-test.true, long) in
     let here : get_or calls i call ≡ call = sym (c.call-item.is ∙ get_or-take c.min-count.result calls i call (omega (arith, c.loop-i-test.true, long))) in
     let P : g.row.S.Denot → Type 0 = λ x. JoinAnswers (W x) n m (among call) r in
-    let Q : List JoinCall → Type 0 = λ cs. Kept (W s) n₀ cs (take (i + 1) (set xs i r)) m in
-    let R : List (Result ℕ Fault) → Type 0 = λ ys. Kept (W s) n₀ (map among (take i calls) ++ among call ∷ []) ys m in
+    let Q : List JoinCall → Type 0 = λ cs. CallsMade (W s) n₀ cs (take (i + 1) (set xs i r)) m in
+    let R : List (Result ℕ Fault) → Type 0 = λ ys. CallsMade (W s) n₀ (map among (take i calls) ++ among call ∷ []) ys m in
     let a = subst P c.loop-i.invariant.2 c.make.ensures.answer in
     let more = map_more among calls i call h ∙ ap (λ x. map among (take i calls) ++ among x ∷ []) here in (
       subst Q (sym more) (subst R (sym (take_more_set xs i r k)) (kept_more (W s) (g.met.C.NetCall.keeps s) n₀ (map among (take i calls)) (take i xs) n m (among call) r c.loop-i.invariant.0 a)),

@@ -1,7 +1,7 @@
 use Rattle.std.proofs.Common.{◌≡◌, ℕ, Some, None, Err, Option, Result, refl, subst, rules}
 use Rattle.order.specs.Bests.{BestOf}
 use Rattle.tree_laws.proofs.Ways.{hung}
-use Rattle.tree_laws.specs.Distances.{join_of, reach_of}
+use Rattle.space.specs.Totals.{meet_or_start, capped_distance}
 use Rattle.tree_laws.specs.Shares.{ShareMove, share_before}
 use Rattle.tree_laws.specs.declared.share.Share.{Share}
 use Rattle.share.specs.declared.sharing.ShareFault.{ShareFault}
@@ -19,7 +19,7 @@ returns-in_err-share g c =
     let J = g.S.Joining in
     let s = c.args.space.now in
     let t = c.args.table.now in
-    let B : Option Share → Type 0 = BestOf share_before (ShareMove t.rows (reach_of G s) (join_of G J s)) in
+    let B : Option Share → Type 0 = BestOf share_before (ShareMove t.rows (capped_distance G s) (meet_or_start G J s)) in
     let R : Result ℕ ShareFault → Type 0 = λ r. Shared G J s t r t in
     let none : c.best.result ≡ None = search rules in
     let b = subst B none c.best.ensures in
@@ -34,7 +34,7 @@ returns-in_err-ok_or g c =
     let t = c.args.table.now in
     let after = c.insert_meet.new.table in
     let m = c.in_ok-share.share in
-    let B : Option Share → Type 0 = BestOf share_before (ShareMove t.rows (reach_of G s) (join_of G J s)) in
+    let B : Option Share → Type 0 = BestOf share_before (ShareMove t.rows (capped_distance G s) (meet_or_start G J s)) in
     let P : Option ℕ → Type 0 = λ r. MeetInserted G J s t m.v m.a m.b r after in
     let R : Result ℕ ShareFault → Type 0 = λ r. Shared G J s t r after in
     let found : c.best.result ≡ Some m = search rules in
@@ -47,7 +47,7 @@ returns-in_err-ok_or g c =
         move = m;
         best = b;
         own = λ p. best_measured G J s t.rows (g.met.S.Space.metric s) (g.met.S.Joining.meets s) p (Some m) b;
-        full = full_table t (reach_of G s) (join_of G J s) m b.0 e.0;
+        full = full_table t (capped_distance G s) (meet_or_start G J s) m b.0 e.0;
       },
       e.1,
     )
@@ -60,7 +60,7 @@ returns g c =
     let t = c.args.table.now in
     let after = c.insert_meet.new.table in
     let m = c.in_ok-share.share in
-    let B : Option Share → Type 0 = BestOf share_before (ShareMove t.rows (reach_of G s) (join_of G J s)) in
+    let B : Option Share → Type 0 = BestOf share_before (ShareMove t.rows (capped_distance G s) (meet_or_start G J s)) in
     let P : Option ℕ → Type 0 = λ r. MeetInserted G J s t m.v m.a m.b r after in
     let found : c.best.result ≡ Some m = search rules in
     let made : c.insert_meet.result ≡ Some c.in_ok-ok_or.field-0 = search rules in

@@ -1,6 +1,6 @@
 use Rattle.std.proofs.Common.{◌≡◌, ℕ, ◌-◌, ◌≤◌, ap, arith}
 use Rattle.tree_laws.specs.declared.Row.{Row}
-use Rattle.tree_laws.specs.Distances.{apart}
+use Rattle.tree_laws.specs.Distances.{capped_row_distance}
 use Rattle.tree.proofs.Hooking.{changed_hangs, saved}
 use Rattle.tree.proofs.Saving.{saved_again, saved_measured}
 use Rattle.tree.proofs.refining.hook_best.Goals as goal
@@ -9,7 +9,7 @@ pub returns : goal.returns
 returns g c =
     let t = c.args.table.now in
     let s = c.args.space.now in
-    let d = apart g.S.Space s t.rows in
+    let d = capped_row_distance g.S.Space s t.rows in
     let m = c.in_ok-hook.hook in
     let b = c.in_ok-hook.ensures in
     let l : ℕ = c.at.result.length - m.saving in

@@ -1,6 +1,6 @@
 use Rattle.std.proofs.Common.{sym, subst}
 use Rattle.net_laws.specs.Answers.{Answers}
-use Rattle.net_laws.specs.Worlds.{wiring}
+use Rattle.net_laws.specs.Spaces.{wiring}
 use Rattle.net_laws.specs.declared.call.Call.{Call}
 use Rattle.guarantee.proofs.answering.CallNetCall.make.Goals as goal
 

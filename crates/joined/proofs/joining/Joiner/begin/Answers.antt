@@ -1,5 +1,5 @@
 use Rattle.std.proofs.Common.{ℕ, List, length, vec_items, sym, ap, subst, arith}
-use Rattle.tree_laws.specs.Distances.{join_of, reach_of}
+use Rattle.space.specs.Totals.{meet_or_start, capped_distance}
 use Rattle.joined.specs.Joinings.{Joinable}
 use Rattle.joined.specs.Pairs.{Firsts}
 use Rattle.joined.proofs.Stepping.{standing_start}
@@ -9,8 +9,8 @@ pub returns-clause-standing : goal.returns-clause-standing
 returns-clause-standing g c =
     let t = c.args.table.now in
     let rows = t.rows in
-    let d = reach_of g.S.Space c.args.space.now in
-    let j = join_of g.S.Space g.S.Joining c.args.space.now in
+    let d = capped_distance g.S.Space c.args.space.now in
+    let j = meet_or_start g.S.Space g.S.Joining c.args.space.now in
     let group = vec_items c.fill.new.group in
     let F = vec_items c.start.new.partners in
     let e = c.fill.ensures.items in

@@ -1,7 +1,7 @@
 use Rattle.std.proofs.Common.{◌≡◌, ℕ, ◌<◌, List, [], ◌∷◌, ◌++◌, length, Some, None, vec_items, filter, refl, ap, ◌∙◌, subst, arith}
 use Rattle.order.specs.Firsts.{FirstOf}
 use Rattle.build_laws.specs.Joining.{far_of, others}
-use Rattle.tree_laws.specs.Distances.{join_of, reach_of}
+use Rattle.space.specs.Totals.{meet_or_start, capped_distance}
 use Rattle.build_laws.specs.declared.pair.Pair.{Pair}
 use Rattle.joined.specs.Pairs.{Firsts}
 use Rattle.build_laws.specs.Pairs.{pair_before}
@@ -13,8 +13,8 @@ use Rattle.joined.proofs.joining.Joiner.step.Goals as goal
 pub returns-in_default : goal.returns-in_default
 returns-in_default g c =
     let rows = c.args.table.now.rows in
-    let d = reach_of g.S.Space c.args.space.now in
-    let j = join_of g.S.Space g.S.Joining c.args.space.now in
+    let d = capped_distance g.S.Space c.args.space.now in
+    let j = meet_or_start g.S.Space g.S.Joining c.args.space.now in
     let group = vec_items c.args.self.now.group in
     let F = vec_items c.args.self.now.partners in
     let P : List Pair → Type 0 = λ xs. FirstOf pair_before xs None in
@@ -23,8 +23,8 @@ returns-in_default g c =
 pub returns-then-pair-eq0 : goal.returns-then-pair-eq0
 returns-then-pair-eq0 g c =
     let rows = c.args.table.now.rows in
-    let d = reach_of g.S.Space c.args.space.now in
-    let j = join_of g.S.Space g.S.Joining c.args.space.now in
+    let d = capped_distance g.S.Space c.args.space.now in
+    let j = meet_or_start g.S.Space g.S.Joining c.args.space.now in
     let group = vec_items c.args.self.now.group in
     let F = vec_items c.args.self.now.partners in
     let p = c.in-Some.pair in
@@ -35,8 +35,8 @@ pub returns-in_default-insert_meet : goal.returns-in_default-insert_meet
 returns-in_default-insert_meet g c =
     let t = c.args.table.now in
     let rows = t.rows in
-    let d = reach_of g.S.Space c.args.space.now in
-    let j = join_of g.S.Space g.S.Joining c.args.space.now in
+    let d = capped_distance g.S.Space c.args.space.now in
+    let j = meet_or_start g.S.Space g.S.Joining c.args.space.now in
     let group = vec_items c.args.self.now.group in
     let F = vec_items c.args.self.now.partners in
     let p = c.in-Some.pair in
@@ -62,8 +62,8 @@ pub invariant_of-group-clause-few : goal.invariant_of-group-clause-few
 invariant_of-group-clause-few g c =
     let t = c.args.table.now in
     let rows = t.rows in
-    let d = reach_of g.S.Space c.args.space.now in
-    let j = join_of g.S.Space g.S.Joining c.args.space.now in
+    let d = capped_distance g.S.Space c.args.space.now in
+    let j = meet_or_start g.S.Space g.S.Joining c.args.space.now in
     let group = vec_items c.args.self.now.group in
     let F = vec_items c.args.self.now.partners in
     let p = c.in-Some.pair in
@@ -79,8 +79,8 @@ pub invariant_of-group-clause-rising : goal.invariant_of-group-clause-rising
 invariant_of-group-clause-rising g c =
     let t = c.args.table.now in
     let rows = t.rows in
-    let d = reach_of g.S.Space c.args.space.now in
-    let j = join_of g.S.Space g.S.Joining c.args.space.now in
+    let d = capped_distance g.S.Space c.args.space.now in
+    let j = meet_or_start g.S.Space g.S.Joining c.args.space.now in
     let group = vec_items c.args.self.now.group in
     let F = vec_items c.args.self.now.partners in
     let p = c.in-Some.pair in
@@ -96,8 +96,8 @@ pub renew-requires-clause-ready : goal.renew-requires-clause-ready
 renew-requires-clause-ready g c =
     let t = c.args.table.now in
     let rows = t.rows in
-    let d = reach_of g.S.Space c.args.space.now in
-    let j = join_of g.S.Space g.S.Joining c.args.space.now in
+    let d = capped_distance g.S.Space c.args.space.now in
+    let j = meet_or_start g.S.Space g.S.Joining c.args.space.now in
     let group = vec_items c.args.self.now.group in
     let F = vec_items c.args.self.now.partners in
     let p = c.in-Some.pair in
@@ -113,8 +113,8 @@ pub returns : goal.returns
 returns g c =
     let t = c.args.table.now in
     let rows = t.rows in
-    let d = reach_of g.S.Space c.args.space.now in
-    let j = join_of g.S.Space g.S.Joining c.args.space.now in
+    let d = capped_distance g.S.Space c.args.space.now in
+    let j = meet_or_start g.S.Space g.S.Joining c.args.space.now in
     let group = vec_items c.args.self.now.group in
     let F = vec_items c.args.self.now.partners in
     let p = c.in-Some.pair in

@@ -1,6 +1,6 @@
 use Rattle.std.proofs.Common.{rules}
 use Rattle.order.proofs.Deciding.{Below, found_best}
-use Rattle.tree_laws.specs.Distances.{join_of, reach_of}
+use Rattle.space.specs.Totals.{meet_or_start, capped_distance}
 use Rattle.joined.specs.Pairs.{PartnerAt}
 use Rattle.build_laws.specs.Pairs.{pair_order}
 use Rattle.joined.proofs.Partnering.{until_best}
@@ -10,8 +10,8 @@ pub returns : goal.returns
 returns g c =
     let group = c.args.self.now.members.now in
     let rows = c.args.self.now.table.now.rows in
-    let d = reach_of g.S.Space c.args.self.now.space.now in
-    let j = join_of g.S.Space g.S.Joining c.args.self.now.space.now in
+    let d = capped_distance g.S.Space c.args.self.now.space.now in
+    let j = meet_or_start g.S.Space g.S.Joining c.args.self.now.space.now in
     let b = c.args.b in
     let r = c.first_until.result in
     let u = c.first_until.ensures in

@@ -1,5 +1,5 @@
 use Rattle.std.proofs.Common.{List, sym, subst, vec_items, rules}
-use Rattle.tree_laws.specs.Distances.{join_of, reach_of}
+use Rattle.space.specs.Totals.{meet_or_start, capped_distance}
 use Rattle.build_laws.specs.declared.pair.Pair.{Pair}
 use Rattle.joined.specs.Pairs.{Firsts}
 use Rattle.joined.proofs.Partnering.{never_farther, renewed, renewed_none, renewed_some}
@@ -8,8 +8,8 @@ use Rattle.joined.proofs.partners.Group.renew.Goals as goal
 pub returns-in-Some-clause-firsts : goal.returns-in-Some-clause-firsts
 returns-in-Some-clause-firsts g c =
     let rows = c.args.self.now.table.now.rows in
-    let d = reach_of g.S.Space c.args.self.now.space.now in
-    let j = join_of g.S.Space g.S.Joining c.args.self.now.space.now in
+    let d = capped_distance g.S.Space c.args.self.now.space.now in
+    let j = meet_or_start g.S.Space g.S.Joining c.args.self.now.space.now in
     let group = c.args.self.now.members.now in
     let a = c.args.change.a in
     let b = c.args.change.b in
@@ -23,8 +23,8 @@ returns-in-Some-clause-firsts g c =
 pub returns-in_default-clause-firsts : goal.returns-in_default-clause-firsts
 returns-in_default-clause-firsts g c =
     let rows = c.args.self.now.table.now.rows in
-    let d = reach_of g.S.Space c.args.self.now.space.now in
-    let j = join_of g.S.Space g.S.Joining c.args.self.now.space.now in
+    let d = capped_distance g.S.Space c.args.self.now.space.now in
+    let j = meet_or_start g.S.Space g.S.Joining c.args.self.now.space.now in
     let group = c.args.self.now.members.now in
     let a = c.args.change.a in
     let b = c.args.change.b in

@@ -1,7 +1,7 @@
 use Rattle.std.proofs.Common.{◌≡◌, ℕ, ◌+◌, List, get_or, take, vec_items, sym, ◌∙◌, subst, arith}
 use Rattle.std.proofs.lemmas.List.{take_all}
 use Rattle.order.specs.Firsts.{Among}
-use Rattle.tree_laws.specs.Distances.{join_of, reach_of}
+use Rattle.space.specs.Totals.{meet_or_start, capped_distance}
 use Rattle.build_laws.specs.declared.pair.Pair.{Pair}
 use Rattle.joined.specs.Pairs.{FirstsOf}
 use Rattle.joined.proofs.Partnering.{firsts_push, firsts_same, held, never_farther}
@@ -12,8 +12,8 @@ use Rattle.joined.proofs.partners.Group.start.Goals.{in-Some, in_default}
 pub loop-member-preserved : goal.loop-member-preserved
 loop-member-preserved g c =
     let rows = c.args.self.now.table.now.rows in
-    let d = reach_of g.S.Space c.args.self.now.space.now in
-    let j = join_of g.S.Space g.S.Joining c.args.self.now.space.now in
+    let d = capped_distance g.S.Space c.args.self.now.space.now in
+    let j = meet_or_start g.S.Space g.S.Joining c.args.self.now.space.now in
     let group = c.args.self.now.members.now in
     let i = c.loop-member.member-index in
     let x = get_or group i 0 in
@@ -38,8 +38,8 @@ loop-member-preserved g c =
 pub returns-clause-firsts : goal.returns-clause-firsts
 returns-clause-firsts g c =
     let rows = c.args.self.now.table.now.rows in
-    let d = reach_of g.S.Space c.args.self.now.space.now in
-    let j = join_of g.S.Space g.S.Joining c.args.self.now.space.now in
+    let d = capped_distance g.S.Space c.args.self.now.space.now in
+    let j = meet_or_start g.S.Space g.S.Joining c.args.self.now.space.now in
     let group = c.args.self.now.members.now in
     let F = vec_items c.loop-member.partners in
     let Q : List ℕ → Type 0 = λ xs. FirstsOf d j rows group (λ b. Among b xs) F in

@@ -1,4 +1,4 @@
-use Rattle.net_laws.specs.Worlds.{joining}
+use Rattle.net_laws.specs.Spaces.{joining}
 use Rattle.net_laws.proofs.Owned.{joining_keeps_lem, unchanged_by, whole_joined}
 use Rattle.net_laws.proofs.Sparing.{joined_keeps_bounds, joined_keeps_seed, joined_no_longer}
 use Rattle.net.proofs.net.Net.joined.Goals as goal

@@ -1,6 +1,6 @@
 use Rattle.std.proofs.Common.{sym, subst}
 use Rattle.net_laws.specs.States.{State}
-use Rattle.net_laws.specs.Worlds.{Whole, wiring}
+use Rattle.net_laws.specs.Spaces.{TiedToSpace, wiring}
 use Rattle.net_laws.proofs.Keeping.{fresh_tied}
 use Rattle.net_laws.proofs.Owned.{wiring_keeps}
 use Rattle.net.proofs.net.Net.new.Goals as goal
@@ -9,5 +9,5 @@ pub invariant_of-result : goal.invariant_of-result
 invariant_of-result g c =
     let G = g.S.Space in
     let s = c.args.space in
-    let P : State → Type 0 = λ n. Whole G s n in
+    let P : State → Type 0 = λ n. TiedToSpace G s n in
     subst P (sym c.in_ok-state.ensures) (fresh_tied (wiring G s) (wiring_keeps G s (g.met.S.Space.metric s)))

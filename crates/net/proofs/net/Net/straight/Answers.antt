@@ -1,4 +1,4 @@
-use Rattle.net_laws.specs.Worlds.{wiring}
+use Rattle.net_laws.specs.Spaces.{wiring}
 use Rattle.net_laws.proofs.Owned.{whole_straight, wiring_keeps}
 use Rattle.net_laws.proofs.Sparing.{straight_keeps_bounds, straight_keeps_seed}
 use Rattle.net.proofs.States.{straight_answered, straight_same, straight_unchanged}

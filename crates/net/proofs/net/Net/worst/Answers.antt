@@ -5,14 +5,14 @@ use Rattle.net_laws.specs.declared.reading.Worst.{Worst}
 use Rattle.net_lemmas.proofs.Moves.{not_none}
 use Rattle.net_laws.proofs.Worsts.{first_sink, some_sink, worst_own, worst_sink}
 use Rattle.order.specs.Bests.{BestOf}
-use Rattle.span.specs.Lengths.{length_of}
+use Rattle.space.specs.Totals.{edge_length}
 use Rattle.net.specs.declared.net.Net.TheInside.{Inside}
 use Rattle.net.proofs.net.Net.worst.Goals as goal
 
 pub unwrap-requires : goal.unwrap-requires
 unwrap-requires g c =
     let n = c.self.inside in
-    let d = length_of g.S.Space n.space in
+    let d = edge_length g.S.Space n.space in
     let rows = c.in_ok-tree.tree.now.rows in
     let st = c.in_ok-tree.ensures.some in
     let pins = ap (λ (x : Inside g.row.S.Denot). x.state.pins) c.self-inside.view_is in
@@ -24,7 +24,7 @@ pub returns : goal.returns
 returns g c =
     let n = c.self.inside in
     let s = n.space in
-    let d = length_of g.S.Space s in
+    let d = edge_length g.S.Space s in
     let rows = c.in_ok-tree.tree.now.rows in
     let st = c.in_ok-tree.ensures.some in
     let pins = ap (λ (x : Inside g.row.S.Denot). x.state.pins) c.self-inside.view_is in

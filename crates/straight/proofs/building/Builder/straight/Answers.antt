@@ -1,7 +1,7 @@
 use Rattle.std.proofs.Common.{◌≡◌, true, is_ok, is_some, length, vec_items, sym, ap, ◌∙◌, arith}
-use Rattle.tree_laws.specs.Distances.{reach_of}
+use Rattle.space.specs.Totals.{capped_distance}
 use Rattle.walk.specs.Tables.{as.rows walkRows}
-use Rattle.straight.specs.Built.{spot_at}
+use Rattle.space.specs.Spots.{spot_of}
 use Rattle.straight.proofs.Spaced.{laid_measures}
 use Rattle.straight.proofs.Whole.{on_ok, rows_counted, whole_falls, whole_straight}
 use Rattle.straight.proofs.building.Builder.straight.Goals as goal
@@ -10,12 +10,12 @@ pub lay-requires-clause-falling : goal.lay-requires-clause-falling
 lay-requires-clause-falling g c =
     let seed = c.args.seed.now.seed.now in
     let spots = c.args.spots.now in
-    let d = reach_of g.S.Space c.args.space.now in
+    let d = capped_distance g.S.Space c.args.space.now in
     let a = c.args.allowance in
     let old = walkRows c.measure.new.walk in
     let measured = c.in_ok-measure.ensures.rows in
     let went : is_ok c.walk.result ≡ true = sym c.ok.ensures.variant ∙ ap is_some c.in_ok-ok.was in
-    let size : seed.nodes ≡ length spots = sym (c.walk.ensures.taken.0 went) ∙ rows_counted (d (spot_at spots 0)) spots old measured in
+    let size : seed.nodes ≡ length spots = sym (c.walk.ensures.taken.0 went) ∙ rows_counted (d (spot_of spots 0)) spots old measured in
     whole_falls d spots a.p a.q c.args.pins seed.nodes seed.edges old (walkRows c.walk.new.self) (omega (arith, a.within.1)) seed.sound size measured (on_ok c.walk.result went c.walk.ensures.walked) c.walk.ensures.kept
 
 pub returns : goal.returns
@@ -23,14 +23,14 @@ returns g c =
     let seed = c.args.seed.now.seed.now in
     let spots = c.args.spots.now in
     let s = c.args.space.now in
-    let d = reach_of g.S.Space s in
+    let d = capped_distance g.S.Space s in
     let a = c.args.allowance in
     let old = walkRows c.measure.new.walk in
     let found = vec_items c.lay.new.broken in
     let built = c.lay.new.tree.rows in
     let measured = c.in_ok-measure.ensures.rows in
     let went : is_ok c.walk.result ≡ true = sym c.ok.ensures.variant ∙ ap is_some c.in_ok-ok.was in
-    let size : seed.nodes ≡ length spots = sym (c.walk.ensures.taken.0 went) ∙ rows_counted (d (spot_at spots 0)) spots old measured in
+    let size : seed.nodes ≡ length spots = sym (c.walk.ensures.taken.0 went) ∙ rows_counted (d (spot_of spots 0)) spots old measured in
     let done = whole_straight d spots a.p a.q c.args.pins seed.nodes seed.edges old (walkRows c.walk.new.self) (omega (arith, a.within.1)) seed.sound size measured (on_ok c.walk.result went c.walk.ensures.walked) c.walk.ensures.kept found c.wire.result built c.lay.ensures.rows c.lay.ensures.found c.wire.ensures in (
       (c.args.seed.now.whole, size),
       done,

@@ -2,9 +2,9 @@ use Rattle.std.proofs.Common.{◌≡◌, ◌<◌, false, length, sym, ap, ◌∙
 use Rattle.tree.specs.Tables.{Changed}
 use Rattle.tree.proofs.Tabled.{tree_of}
 use Rattle.walk.specs.declared.row.Mark.{Mark}
-use Rattle.walk.specs.Marks.{marks, rules_of}
+use Rattle.walk.specs.Marks.{marks, walk_rules}
 use Rattle.walk.specs.Tables.{as.rows walkRows}
-use Rattle.straight.specs.Built.{spot_at}
+use Rattle.space.specs.Spots.{spot_of}
 use Rattle.straight.proofs.Mixed.{can_hang, hung_ok}
 use Rattle.straight.proofs.laying.Plan.lay.Goals as goal
 
@@ -21,4 +21,4 @@ returns-in_err-ok c =
     let b : (S i).broken ≡ false = ap (λ (m : Mark). m.broken) (sym c.mark-mark.ensures) ∙ c.if-mark.false in
     let C : Mark → Type 0 = λ m. Changed t i m.parent m.edge c.hang.result c.hang.new.self in
     absurd (hung_ok t i (S i).parent (S i).edge c.hang.result c.hang.new.self (subst C c.mark-mark.ensures c.hang.ensures)
-    (can_hang (rules_of 0 0 0 w) S (spot_at c.args.self.now.spots.now) n i t.rows f (omega arith) c.loop-v.invariant.0 (tree_of t) i less nz b) (f.short i less nz b) (sym c.ok.ensures.value ∙ c.in_err-ok.was))
+    (can_hang (walk_rules 0 0 0 w) S (spot_of c.args.self.now.spots.now) n i t.rows f (omega arith) c.loop-v.invariant.0 (tree_of t) i less nz b) (f.short i less nz b) (sym c.ok.ensures.value ∙ c.in_err-ok.was))

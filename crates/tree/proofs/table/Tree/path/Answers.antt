@@ -3,7 +3,7 @@ use Rattle.tree_laws.specs.declared.Row.{Row}
 use Rattle.tree_laws.specs.Trees.{path_in, path_length}
 use Rattle.tree_laws.proofs.Steps.{path_bound, path_turn}
 use Rattle.tree_laws.proofs.Ways.{hung}
-use Rattle.tree.proofs.table.Table.path.Goals as goal
+use Rattle.tree.proofs.table.Tree.path.Goals as goal
 
 pub overflow_add-path : goal.overflow_add-path
 overflow_add-path c =

@@ -1,6 +1,6 @@
 use Rattle.std.proofs.Common.{◌≡◌, ◌+◌, ◌-◌, length}
 use Rattle.tree_laws.specs.Trees.{path_in, path_length}
-use Rattle.tree.proofs.table.Table.path.Given as goal
+use Rattle.tree.proofs.table.Tree.path.Given as goal
 
 -- the sum so far and what is left of the path are the path
 abbrev pub invariant-loop : goal.invariant-loop

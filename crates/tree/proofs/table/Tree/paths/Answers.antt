@@ -4,7 +4,7 @@ use Rattle.std.proofs.lemmas.Bool.{lt-ltb}
 use Rattle.space.specs.Laws.{answered}
 use Rattle.tree_laws.specs.Trees.{path_length}
 use Rattle.tree.proofs.Tabled.{made_by}
-use Rattle.tree.proofs.table.Table.paths.Goals as goal
+use Rattle.tree.proofs.table.Tree.paths.Goals as goal
 
 pub returns : goal.returns
 returns c =

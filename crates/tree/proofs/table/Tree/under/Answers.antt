@@ -2,7 +2,7 @@ use Rattle.std.proofs.Common.{◌+◌, ◌-◌, ◌<◌, length, sym, ap, ◌∙
 use Rattle.tree_laws.specs.declared.Row.{Row}
 use Rattle.tree_laws.specs.Trees.{under_in}
 use Rattle.tree_laws.proofs.Steps.{under_turn}
-use Rattle.tree.proofs.table.Table.under.Goals as goal
+use Rattle.tree.proofs.table.Tree.under.Goals as goal
 
 pub loop-preserved : goal.loop-preserved
 loop-preserved c =

@@ -1,6 +1,6 @@
 use Rattle.std.proofs.Common.{◌≡◌, ◌-◌, length}
 use Rattle.tree_laws.specs.Trees.{under, under_in}
-use Rattle.tree.proofs.table.Table.under.Given as goal
+use Rattle.tree.proofs.table.Tree.under.Given as goal
 
 -- whether v is met on the rest of the way says whether it is met at all
 abbrev pub invariant-loop : goal.invariant-loop

@@ -1,5 +1,5 @@
 use Rattle.walk.proofs.Fresh.{Renewing}
-use Rattle.walk.proofs.table.Table.renew_all.Given as goal
+use Rattle.walk.proofs.table.Walk.renew_all.Given as goal
 
 -- the rows passed are fresh, and the others are as they were
 abbrev pub invariant-loop-k : goal.invariant-loop-k

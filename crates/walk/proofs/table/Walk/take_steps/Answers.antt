@@ -2,10 +2,10 @@ use Rattle.std.proofs.Common.{ℕ, ◌+◌, ◌*◌, ◌<◌, vec_items, sym, su
 use Rattle.forest.specs.Rooted.{size_of}
 use Rattle.forest.proofs.Accepted.{accepted}
 use Rattle.forest.proofs.Rooting.{planted}
-use Rattle.walk.specs.declared.table.Table.{Table}
+use Rattle.walk.specs.declared.table.Walk.{Walk}
 use Rattle.walk.proofs.Loop.{Looping, loop_start, loop_needs, loop_rise, loop_down, loop_up, loop_end, loop_steps}
-use Rattle.walk.proofs.table.Table.take_steps.Goals as goal
-use Rattle.walk.proofs.table.Table.take_steps.Goals.{in-Some, in-None}
+use Rattle.walk.proofs.table.Walk.take_steps.Goals as goal
+use Rattle.walk.proofs.table.Walk.take_steps.Goals.{in-Some, in-None}
 
 pub loop-step-init : goal.loop-step-init
 loop-step-init c =
@@ -40,7 +40,7 @@ loop-step-preserved c =
     let L = c.loop-step.invariant in
     let total = loop_steps s.nodes s.edges L.planted c.count-step-end.result c.count-step-end.ensures c.args.tree.now.whole in
     let early : c.loop-step.step < 2 * size_of L.planted.forest = omega (arith, total, c.loop-step-test.true) in
-    let P : Table → ℕ → Type 0 =
+    let P : Walk → ℕ → Type 0 =
     λ t x. Looping R.allowance.p R.allowance.q R.pins s.nodes s.edges c.args.self.now.rows.items (vec_items t.rows) x (c.loop-step.step + 1) in
     elim c.match-neighbour.branch [
       | in-Some w ↦

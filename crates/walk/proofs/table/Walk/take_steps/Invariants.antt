@@ -1,6 +1,6 @@
 use Rattle.std.proofs.Common.{vec_items}
 use Rattle.walk.proofs.Loop.{Looping}
-use Rattle.walk.proofs.table.Table.take_steps.Given as goal
+use Rattle.walk.proofs.table.Walk.take_steps.Given as goal
 
 abbrev pub invariant-loop-step : goal.invariant-loop-step
 invariant-loop-step l =

@@ -3,7 +3,7 @@ use Rattle.walk.specs.Marks.{marks}
 use Rattle.walk.specs.Tables.{rows_of}
 use Rattle.walk.specs.Walked.{Walked}
 use Rattle.walk.proofs.Fresh.{renewed_directs, renewed_ready}
-use Rattle.walk.proofs.table.Table.walk.Goals as goal
+use Rattle.walk.proofs.table.Walk.walk.Goals as goal
 
 pub take_steps-requires : goal.take_steps-requires
 take_steps-requires c =

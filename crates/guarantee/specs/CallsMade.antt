@@ -1,6 +1,6 @@
 -- The log of a list of calls and its answers, and what holds when they were made on a net. Assumes nothing.
 use Rattle.std.specs.Prelude.{◌≡◌, ℕ, List, [], ◌∷◌, ◌++◌, map, length, Ok, Err, Result}
-use Rattle.net_laws.specs.Geometry.{World}
+use Rattle.net_laws.specs.Geometry.{Geometry}
 use Rattle.net_laws.specs.Guarantee.{Guarantee}
 use Rattle.net_laws.specs.Logs.{Log, Runs}
 use Rattle.net_laws.specs.States.{State, fresh}
@@ -25,7 +25,7 @@ log_of (c ∷ cs) [] = []
 log_of (c ∷ cs) (r ∷ rs) = log_of cs rs ++ record { call = c; answer = r } ∷ []
 
 -- The calls were made on the net n₀ and left the net n: each was answered, as its own contract says, and where n₀ was new, n keeps the guarantee.
-pub record Kept (W : World) (n₀ : State) (calls : List JoinCall) (answers : List (Result ℕ Fault)) (n : State) : Type 0 where
+pub record CallsMade (W : Geometry) (n₀ : State) (calls : List JoinCall) (answers : List (Result ℕ Fault)) (n : State) : Type 0 where
   pub each : length answers ≡ length calls
   pub runs : Runs W n₀ (log_of calls answers) n
   pub guarantee : n₀ ≡ fresh → Guarantee W (log_of calls answers) n
