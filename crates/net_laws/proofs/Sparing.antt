@@ -1,5 +1,6 @@
 -- Seeds within the allowance are built edge for edge, and a joined tree has no more wire than the straight one. Assumes nothing.
 use Rattle.std.proofs.Common.{◌≡◌, ℕ, zero, suc, ◌+◌, ◌*◌, ◌<◌, ◌≤◌, true, false, is_ok, List, [], ◌++◌, length, Some, Ok, Err, Result, sym, refl, ap, ◌∙◌, subst, mul-le-mul_left, arith}
+use Rattle.std.proofs.lemmas.Bool.{both_ways}
 use Rattle.build_laws.specs.Joining.{Grouped, Joins, JoinedKeeps}
 use Rattle.build_laws.specs.Joining.Joins.{done, join}
 use Rattle.build_laws.specs.Straight.{straight}
@@ -159,25 +160,25 @@ module _ (W : Geometry) (laws : Keeps W) (n m : State) (t : Tied W.admitted W.wi
   joined_bounds w a rows e p q al = joined_within a.0 p q al rows (joined_now w a rows e p q al)
 
   -- of an accepted build
-  accepted : {P : Type 0} (e : Fault) → is_ok {E = Fault} (Err {A = ℕ} e) ≡ true → P
-  accepted e h = let z : ◌≡◌ {A = ℕ} 0 1 = cc in absurd (omega arith)
+  accepted : {P : Type 0} → false ≡ true → P
+  accepted h = absurd (both_ways false refl h)
 
   pub straight_keeps_bounds : (r : Result ℕ Fault) → StraightAnswer W n m r → is_ok r ≡ true → Bounds W n m
   straight_keeps_bounds (Ok w) a e = straight_bounds w a
-  straight_keeps_bounds (Err f) a e = accepted f e
+  straight_keeps_bounds (Err f) a e = accepted e
 
   pub straight_keeps_seed : (r : Result ℕ Fault) → StraightAnswer W n m r → is_ok r ≡ true → EdgeForEdge W n m
   straight_keeps_seed (Ok w) a e = straight_spared w a
-  straight_keeps_seed (Err f) a e = accepted f e
+  straight_keeps_seed (Err f) a e = accepted e
 
   pub joined_keeps_bounds : (r : Result ℕ Fault) → JoinedAnswer W n m r → is_ok r ≡ true → Bounds W n m
   joined_keeps_bounds (Ok w) a e = joined_bounds w a
-  joined_keeps_bounds (Err f) a e = accepted f e
+  joined_keeps_bounds (Err f) a e = accepted e
 
   pub joined_keeps_seed : (r : Result ℕ Fault) → JoinedAnswer W n m r → is_ok r ≡ true → EdgeForEdge W n m
   joined_keeps_seed (Ok w) a e = joined_spared w a
-  joined_keeps_seed (Err f) a e = accepted f e
+  joined_keeps_seed (Err f) a e = accepted e
 
   pub joined_no_longer : (r : Result ℕ Fault) → JoinedAnswer W n m r → is_ok r ≡ true → NoMoreThanStraight W n m
   joined_no_longer (Ok w) a e = joined_shorter w a
-  joined_no_longer (Err f) a e = accepted f e
+  joined_no_longer (Err f) a e = accepted e

@@ -4,7 +4,7 @@ ghost use Rattle.space.specs.declared.TheConstants.{LONGEST};
 ghost use Rattle.seed.specs.declared.store.TheConstants.{NODES};
 ghost use Rattle.space.specs.Totals.{capped_distance};
 ghost use Rattle.walk.specs.Marks.{directs, idle, marks};
-ghost use Rattle.walk.specs.Tables.{as.rows walkRows};
+ghost use Rattle.walk.specs.Tables.{rows_of as walkRows};
 ghost use Rattle.straight.specs.Built.{breakpoints_of};
 ghost use Rattle.space.specs.Spots.{spot_of};
 ghost use Rattle.straight.specs.Laying.{Falling, directs_of};

@@ -1,6 +1,6 @@
 use Rattle.std.proofs.Common.{◌≡◌, true, is_ok, is_some, length, vec_items, sym, ap, ◌∙◌, arith}
 use Rattle.space.specs.Totals.{capped_distance}
-use Rattle.walk.specs.Tables.{as.rows walkRows}
+use Rattle.walk.specs.Tables.{rows_of as walkRows}
 use Rattle.space.specs.Spots.{spot_of}
 use Rattle.straight.proofs.Spaced.{laid_measures}
 use Rattle.straight.proofs.Whole.{on_ok, rows_counted, whole_falls, whole_straight}

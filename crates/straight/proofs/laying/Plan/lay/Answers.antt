@@ -3,7 +3,7 @@ use Rattle.tree.specs.Tables.{Changed}
 use Rattle.tree.proofs.Tabled.{tree_of}
 use Rattle.walk.specs.declared.row.Mark.{Mark}
 use Rattle.walk.specs.Marks.{marks, walk_rules}
-use Rattle.walk.specs.Tables.{as.rows walkRows}
+use Rattle.walk.specs.Tables.{rows_of as walkRows}
 use Rattle.space.specs.Spots.{spot_of}
 use Rattle.straight.proofs.Mixed.{can_hang, hung_ok}
 use Rattle.straight.proofs.laying.Plan.lay.Goals as goal
