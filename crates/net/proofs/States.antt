@@ -1,12 +1,15 @@
 -- What the parts of a net's state make of its calls. Assumes nothing.
-use Rattle.std.proofs.Common.{is_err, ◌≡◌, ℕ, ◌+◌, ◌*◌, ◌/◌, ◌<◌, ◌≤◌, Bool, true, false, Decides, nat_lt, List, length, get_or, Some, Ok, Err, Option, Result, None, ⊎_elim, take, ap, ◌∙◌, sym, subst, refl, inl, inr, arith, length-take, get_or-take}
+use Rattle.std.proofs.Common.{◌≡◌, ℕ, ◌+◌, ◌*◌, ◌/◌, ◌<◌, ◌≤◌, Bool, true, false, Decides, nat_lt, List, length, vec_items, vec_capacity, get_or, Some, Ok, Err, Option, Result, None, ⊎_elim, take, ap, ◌∙◌, sym, subst, refl, inl, inr, arith, length-take, get_or-take}
 use Rattle.std.proofs.lemmas.Bool.{lt-ltb}
 use Rattle.std.proofs.lemmas.List.{get_or_default}
+use mathlib.Core.HLevel.{is_prop→PathP}
+use native.Mathlib.Bridge.{le_prop}
+use native.Mathlib.Nat.{ℕ_set}
 use Rattle.std.specs.Option.{unwrap_or}
 use Rattle.std.specs.Result.{result_unwrap_or}
 use Rattle.build_laws.specs.Joining.{Joins}
 use Rattle.forest.specs.declared.Edge.{Edge}
-use Rattle.net_laws.specs.Answers.{JoinedAnswer, PinAnswer, StraightAnswer, Unchanged}
+use Rattle.net_laws.specs.Answers.{JoinedAnswer, PinAnswer, StraightAnswer}
 use Rattle.net_laws.specs.Geometry.{Geometry}
 use Rattle.net_laws.specs.Readings.{figure_of}
 use Rattle.net_laws.specs.States.{State, with_pin, with_tree}
@@ -34,7 +37,26 @@ use Rattle.tree.specs.declared.table.Tree.{Tree}
 use Rattle.tree_laws.specs.Trees.{path_length}
 use Rattle.tree_laws.specs.declared.Row.{Row}
 use Rattle.walk.specs.declared.allowance.Allowance.{Allowance}
+use Rattle.net.specs.declared.state.NetState.TheInside.{Inside}
+use Rattle.net.specs.declared.state.TheConstants.{PINS, POINTS}
 use Rattle.net.specs.Held.{JoinsIn, ReadyAnswer, StraightBuilt, Straightens, rows_standing}
+
+-- states with equal parts are equal
+pub same_parts : (a b : Inside) → a.spots ≡ b.spots → a.pins ≡ b.pins → a.allowance ≡ b.allowance → a.seed ≡ b.seed → a.table ≡ b.table → a.stands ≡ b.stands → a ≡ b
+same_parts a b s p l e t u = λ i.
+    record {
+      spots = s i;
+      pins = p i;
+      allowance = l i;
+      seed = e i;
+      table = t i;
+      stands = u i;
+      room = is_prop→PathP (λ j. PINS + POINTS ≤ vec_capacity (s j)) (λ j. le_prop) a.room b.room i;
+      first = is_prop→PathP (λ j. p j ≤ length (vec_items (s j))) (λ j. le_prop) a.first b.first i;
+      few = is_prop→PathP (λ j. p j ≤ PINS) (λ j. le_prop) a.few b.few i;
+      points = is_prop→PathP (λ j. length (vec_items (s j)) ≤ p j + POINTS) (λ j. le_prop) a.points b.points i;
+      nodes = is_prop→PathP (λ j. (e j).nodes ≡ length (vec_items (s j))) (λ j. ℕ_set _ _) a.nodes b.nodes i;
+    }
 
 -- where the rows stand, they are those of the table
 pub stood : (b : Bool) (t : Tree) (rows : List Row) → rows_standing b t ≡ Some rows → (b ≡ true) × (rows ≡ t.rows)
@@ -90,14 +112,6 @@ straight_told G s n m a listed w r t =
 pub straight_answered : {X : Type 0} (G : Ghosts X) (s : X) (n m : State) (listed : List ℕ) (r : Result ℕ Fault) → StraightBuilt (capped_distance G s) n listed r m → StraightAnswer (made_total (wiring G s)) n m r
 straight_answered G s n m listed (Ok w) h = straight_told G s n m h.0 listed w h.1 h.2
 straight_answered G s n m listed (Err e) h = h.0
-
-pub straight_unchanged : (d : Spot → Spot → ℕ) (n m : State) (listed : List ℕ) (r : Result ℕ Fault) → StraightBuilt d n listed r m → Unchanged r n m
-straight_unchanged d n m listed (Ok w) h = tt
-straight_unchanged d n m listed (Err e) h = h.1
-
-pub straight_same : (d : Spot → Spot → ℕ) (n m : State) (listed : List ℕ) (r : Result ℕ Fault) → StraightBuilt d n listed r m → is_err r ≡ true → m ≡ n
-straight_same d n m listed (Ok w) h e = let z : ◌≡◌ {A = ℕ} 0 1 = cc in absurd (omega arith)
-straight_same d n m listed (Err f) h e = h.1
 
 -- and joined after it
 pub joined_told : {X : Type 0} (G : Ghosts X) (J : JoinGhosts X) (s : X) (n k m : State) (a : Allowance) (listed members : List ℕ) (w v : ℕ) → ReadyAnswer n (Ok a) → Straightens (capped_distance G s) a n listed w k → members ≡ listed → JoinsIn (capped_distance G s) (meet_or_start G J s) k members v m → JoinedAnswer (made_total (joining G J s)) n m (Ok v)

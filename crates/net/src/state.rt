@@ -252,7 +252,8 @@ impl NetState {
         space: &S,
         builder: &mut Builder,
     ) -> Result<u64, Fault>
-        ensures { StraightBuilt (capped_distance S.Space space.now) self.old builder.new.broken.items result self.new }
+        ensures built { StraightBuilt (capped_distance S.Space space.now) self.old builder.new.broken.items result self.new }
+        ensures unchanged { is_err result ≡ true → self.new ≡ self.old }
     {
         self.paired()?;
         let Some(allowance) = self.allowance else {

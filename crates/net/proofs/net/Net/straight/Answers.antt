@@ -1,7 +1,7 @@
 use Rattle.net_laws.specs.Spaces.{wiring}
-use Rattle.net_laws.proofs.Owned.{whole_straight, wiring_keeps}
+use Rattle.net_laws.proofs.Owned.{unchanged_by, whole_straight, wiring_keeps}
 use Rattle.net_laws.proofs.Sparing.{straight_keeps_bounds, straight_keeps_seed}
-use Rattle.net.proofs.States.{straight_answered, straight_same, straight_unchanged}
+use Rattle.net.proofs.States.{straight_answered}
 use Rattle.net.proofs.net.Net.straight.Goals as goal
 
 pub invariant_of-self : goal.invariant_of-self
@@ -10,7 +10,7 @@ invariant_of-self g c =
     let s = n.space in
     let m = c.straight.new.self in
     let r = c.straight.result in
-    (whole_straight g.S.Space s (g.met.S.Space.metric s) n.state m r (straight_answered g.S.Space s n.state m _ r c.straight.ensures) (straight_unchanged _ n.state m _ r c.straight.ensures) c.self.invariant).1
+    (whole_straight g.S.Space s (g.met.S.Space.metric s) n.state m r (straight_answered g.S.Space s n.state m _ r c.straight.ensures.built) (unchanged_by r n.state m c.straight.ensures.unchanged) c.self.invariant).1
 
 pub returns-clause-answer : goal.returns-clause-answer
 returns-clause-answer g c =
@@ -18,7 +18,7 @@ returns-clause-answer g c =
     let s = n.space in
     let m = c.straight.new.self in
     let r = c.straight.result in
-    rw (← c.self.view_is) (whole_straight g.S.Space s (g.met.S.Space.metric s) n.state m r (straight_answered g.S.Space s n.state m _ r c.straight.ensures) (straight_unchanged _ n.state m _ r c.straight.ensures) c.self.invariant).0
+    rw (← c.self.view_is) (whole_straight g.S.Space s (g.met.S.Space.metric s) n.state m r (straight_answered g.S.Space s n.state m _ r c.straight.ensures.built) (unchanged_by r n.state m c.straight.ensures.unchanged) c.self.invariant).0
 
 pub returns-clause-bounds : goal.returns-clause-bounds
 returns-clause-bounds g c =
@@ -27,7 +27,7 @@ returns-clause-bounds g c =
     let m = c.straight.new.self in
     let r = c.straight.result in
     let law = g.met.S.Space.metric s in
-    let own = (whole_straight g.S.Space s law n.state m r (straight_answered g.S.Space s n.state m _ r c.straight.ensures) (straight_unchanged _ n.state m _ r c.straight.ensures) c.self.invariant).0 in
+    let own = (whole_straight g.S.Space s law n.state m r (straight_answered g.S.Space s n.state m _ r c.straight.ensures.built) (unchanged_by r n.state m c.straight.ensures.unchanged) c.self.invariant).0 in
     rw (← c.self.view_is) (straight_keeps_bounds (wiring g.S.Space s) (wiring_keeps g.S.Space s law) n.state m c.self.invariant r own.0)
 
 pub returns-clause-spared : goal.returns-clause-spared
@@ -37,10 +37,5 @@ returns-clause-spared g c =
     let m = c.straight.new.self in
     let r = c.straight.result in
     let law = g.met.S.Space.metric s in
-    let own = (whole_straight g.S.Space s law n.state m r (straight_answered g.S.Space s n.state m _ r c.straight.ensures) (straight_unchanged _ n.state m _ r c.straight.ensures) c.self.invariant).0 in
+    let own = (whole_straight g.S.Space s law n.state m r (straight_answered g.S.Space s n.state m _ r c.straight.ensures.built) (unchanged_by r n.state m c.straight.ensures.unchanged) c.self.invariant).0 in
     rw (← c.self.view_is) (straight_keeps_seed (wiring g.S.Space s) (wiring_keeps g.S.Space s law) n.state m c.self.invariant r own.0)
-
-pub returns-clause-unchanged : goal.returns-clause-unchanged
-returns-clause-unchanged g c =
-    let n = c.self.inside in
-    rw (← c.self.view_is) (straight_same _ n.state c.straight.new.self _ c.straight.result c.straight.ensures)
