@@ -12,7 +12,7 @@ fn next(state: u64) -> u64 {
         .wrapping_add(1_442_695_040_888_963_407)
 }
 
-// From -500 to 500. Kept: `as`, which is proved to lose nothing here; `i32::try_from` would need a value for a failure that cannot come.
+// From -500 to 500.
 fn coordinate(state: u64) -> i32 {
     ((state >> 33) % 1001) as i32 - 500
 }
@@ -32,7 +32,6 @@ fn scatter<S: Space>(net: &mut Net<S>) -> usize {
     pins
 }
 
-// Kept: the program `route` has the same sum, and a program exports nothing to a test crate; the calls of a net give rows by their numbers.
 fn wire<S: Space>(net: &Net<S>) -> u64 {
     (0..768)
         .map_while(|k| net.row(k).ok())

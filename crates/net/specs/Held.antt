@@ -4,6 +4,10 @@ use Rattle.std.specs.Prelude.{◌≡◌, ℕ, ◌+◌, ◌≤◌, Bool, true, fa
 use Rattle.build_laws.specs.Joining.{Joins}
 use Rattle.joined.specs.Joinings.{Joinable}
 use Rattle.net_laws.specs.Answers.{Stands, accepts, asks}
+use Rattle.net_laws.specs.Geometry.{Geometry}
+use Rattle.net_laws.specs.Spaces.{joining, made_total, wiring}
+use Rattle.space.specs.declared.Joining.{Ghosts as JoinGhosts}
+use Rattle.space.specs.declared.Space.{Ghosts}
 use Rattle.net_laws.specs.States.{State, with_tree}
 use Rattle.net_laws.specs.declared.fault.Fault.{Fault}
 use Rattle.net_laws.specs.declared.fault.Fault.TheVariants.{NoMove, TooManyRows}
@@ -68,3 +72,10 @@ pub record JoinsIn (d : Spot → Spot → ℕ) (j : Spot → Spot → Spot → S
   pub joins : Joins d j rows members after
   pub wire : w ≡ wire_of after
   pub stands : m ≡ with_tree n after
+
+-- What a wiring space and a joining space answer, made total.
+abbrev pub measured : {X : Type 0} → Ghosts X → X → Geometry
+measured G s = made_total (wiring G s)
+
+abbrev pub joinable : {X : Type 0} → Ghosts X → JoinGhosts X → X → Geometry
+joinable G J s = made_total (joining G J s)

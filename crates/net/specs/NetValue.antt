@@ -1,7 +1,6 @@
 -- A net as its callers see it, and what a call does to it: n is the net before, m the net after, and r the answer. Assumes nothing.
 use Rattle.std.specs.Prelude.{ℕ, Result}
 use Rattle.net_laws.specs.Answers.{Answers, JoinAnswers}
-use Rattle.net_laws.specs.Geometry.{Geometry}
 use Rattle.net_laws.specs.Builds.{Bounds, EdgeForEdge, NoMoreThanStraight}
 use Rattle.net_laws.specs.States.{State}
 use Rattle.net_laws.specs.Spaces.{joining, wiring}
@@ -16,27 +15,29 @@ pub record NetValue (X : Type 0) : Type 0 where
   pub space : X
   pub state : State
 
--- The space of a net, as a wiring space and as a joining one.
-abbrev pub geometry : {X : Type 0} → Ghosts X → NetValue X → Geometry
-geometry G n = wiring G n.space
-
-abbrev pub joining_geometry : {X : Type 0} → Ghosts X → JoinGhosts X → NetValue X → Geometry
-joining_geometry G J n = joining G J n.space
-
-module _ {X : Type 0} (W : Geometry) (n m : NetValue X) where
+-- What a call over a wiring space does: n is the net before, m the net after, and r the answer.
+module _ {X : Type 0} (G : Ghosts X) (n m : NetValue X) where
   -- The call is answered as its own rules say.
   abbrev pub Answered : Call → Result ℕ Fault → Type 0
-  Answered c r = Answers W n.state m.state c r
+  Answered c r = Answers (wiring G n.space) n.state m.state c r
 
-  abbrev pub JoinAnswered : JoinCall → Result ℕ Fault → Type 0
-  JoinAnswered c r = JoinAnswers W n.state m.state c r
-
-  -- What a tree that was built promises beside which tree it is.
+  -- The tree that was built is within its bounds, and a seed that keeps the allowance is built edge for edge.
   abbrev pub Bounded : Type 0
-  Bounded = Bounds W n.state m.state
+  Bounded = Bounds (wiring G n.space) n.state m.state
 
   abbrev pub Spared : Type 0
-  Spared = EdgeForEdge W n.state m.state
+  Spared = EdgeForEdge (wiring G n.space) n.state m.state
+
+-- The same of a call over a joining space; a joined tree has no more wire than the straight one besides.
+module _ {X : Type 0} (G : Ghosts X) (J : JoinGhosts X) (n m : NetValue X) where
+  abbrev pub JoinAnswered : JoinCall → Result ℕ Fault → Type 0
+  JoinAnswered c r = JoinAnswers (joining G J n.space) n.state m.state c r
+
+  abbrev pub JoinBounded : Type 0
+  JoinBounded = Bounds (joining G J n.space) n.state m.state
+
+  abbrev pub JoinSpared : Type 0
+  JoinSpared = EdgeForEdge (joining G J n.space) n.state m.state
 
   abbrev pub NoLonger : Type 0
-  NoLonger = NoMoreThanStraight W n.state m.state
+  NoLonger = NoMoreThanStraight (joining G J n.space) n.state m.state

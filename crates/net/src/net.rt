@@ -1,8 +1,9 @@
 ghost use Rattle.std.specs.Prelude.{◌≡◌, ◌<◌, true, is_err, is_ok, IfOk, Ok, Some};
-ghost use Rattle.net.specs.NetValue.{Answered, Bounded, JoinAnswered, NoLonger, Spared, joining_geometry, geometry};
+ghost use Rattle.net.specs.NetValue.{Answered, Bounded, JoinAnswered, JoinBounded, JoinSpared, NoLonger, Spared};
 ghost use Rattle.net_laws.specs.Answers.{AllowAnswer};
 ghost use Rattle.net_laws.specs.Readings.{PathAnswer, RowAnswer, RowsAnswer, WorstAnswer, figure_of};
 ghost use Rattle.net_laws.specs.Sinks.{SinkAt};
+ghost use Rattle.net_laws.specs.Spaces.{wiring};
 ghost use Rattle.net_laws.specs.States.{fresh};
 ghost use Rattle.net_laws.specs.Worsts.{worst_before};
 ghost use Rattle.net_laws.specs.declared.call.Call.TheVariants.{Edge as EdgeCall, Hook as HookCall, Pin as PinCall, Span as SpanCall, Steiner as SteinerCall, Straight as StraightCall, Unseed as UnseedCall};
@@ -72,7 +73,7 @@ impl<S: Space> Net<S> {
     /// Adds a pin, the first of them the driver, and answers its number. Steiner points, edges and tree are dropped. Refused, in this order, where
     /// the space is too wide (1) or does not admit the spot (2), there are 256 pins (3), or a pin is less than 1 away (4).
     pub fn pin(&mut self, spot: Spot) -> Result<usize, Fault>
-        ensures answer { Answered (geometry S.Space self.old) self.old self.new (PinCall spot) result }
+        ensures answer { Answered S.Space self.old self.new (PinCall spot) result }
         ensures unchanged { is_err result ≡ true → self.new ≡ self.old }
         ensures stays { self.new.space ≡ self.old.space }
     {
@@ -82,7 +83,7 @@ impl<S: Space> Net<S> {
     /// Sets the allowance p/q: a sink's path may be (p + q) / q of its direct distance. The tree is dropped. Refused where p is above 1,000, or q
     /// is 0 or above 1,000 (5).
     pub fn allow(&mut self, p: u64, q: u64) -> Result<(), Fault>
-        ensures answer { AllowAnswer (geometry S.Space self.old) self.old.state self.new.state p q result }
+        ensures answer { AllowAnswer (wiring S.Space self.old.space) self.old.state self.new.state p q result }
         ensures unchanged { is_err result ≡ true → self.new ≡ self.old }
         ensures stays { self.new.space ≡ self.old.space }
     {
@@ -94,7 +95,7 @@ impl<S: Space> Net<S> {
     /// Adds a Steiner point and answers its number. The tree is dropped. Refused, in this order, where there are fewer than two pins (6), the
     /// space does not admit the spot (2), or there are 256 Steiner points (7).
     pub fn steiner(&mut self, spot: Spot) -> Result<usize, Fault>
-        ensures answer { Answered (geometry S.Space self.old) self.old self.new (SteinerCall spot) result }
+        ensures answer { Answered S.Space self.old self.new (SteinerCall spot) result }
         ensures unchanged { is_err result ≡ true → self.new ≡ self.old }
         ensures stays { self.new.space ≡ self.old.space }
     {
@@ -104,7 +105,7 @@ impl<S: Space> Net<S> {
     /// Adds an edge between the nodes `a` and `b`, and answers its length. The tree is dropped. Refused, in this order, where there are fewer than
     /// two pins (6), a number is no node (8), a path of edges joins the nodes already (9), or they are less than 1 apart (10).
     pub fn edge(&mut self, a: usize, b: usize) -> Result<u64, Fault>
-        ensures answer { Answered (geometry S.Space self.old) self.old self.new (EdgeCall a b) result }
+        ensures answer { Answered S.Space self.old self.new (EdgeCall a b) result }
         ensures unchanged { is_err result ≡ true → self.new ≡ self.old }
         ensures stays { self.new.space ≡ self.old.space }
     {
@@ -113,7 +114,7 @@ impl<S: Space> Net<S> {
 
     /// Drops the Steiner points, the edges and the tree.
     pub fn unseed(&mut self)
-        ensures answer { Answered (geometry S.Space self.old) self.old self.new UnseedCall (Ok 0) }
+        ensures answer { Answered S.Space self.old self.new UnseedCall (Ok 0) }
         ensures stays { self.new.space ≡ self.old.space }
     {
         self.state.unseed();
@@ -122,7 +123,7 @@ impl<S: Space> Net<S> {
     /// Grows the spanning seed of the pins in place of Steiner points and edges, and answers its wire. The tree is dropped. Refused where there are
     /// fewer than two pins (6). The time grows with the square of the pins.
     pub fn span(&mut self) -> Result<u64, Fault>
-        ensures answer { Answered (geometry S.Space self.old) self.old self.new SpanCall result }
+        ensures answer { Answered S.Space self.old self.new SpanCall result }
         ensures unchanged { is_err result ≡ true → self.new ≡ self.old }
         ensures stays { self.new.space ≡ self.old.space }
     {
@@ -133,9 +134,9 @@ impl<S: Space> Net<S> {
     /// Builds the straight tree of the seed, in place of a tree that stands, and answers its wire. Refused, in this order, where there are fewer
     /// than two pins (6), no allowance is set (11), or the edges are not one fewer than the nodes (12).
     pub fn straight(&mut self) -> Result<u64, Fault>
-        ensures answer { Answered (geometry S.Space self.old) self.old self.new StraightCall result }
-        ensures bounds { is_ok result ≡ true → Bounded (geometry S.Space self.old) self.old self.new }
-        ensures spared { is_ok result ≡ true → Spared (geometry S.Space self.old) self.old self.new }
+        ensures answer { Answered S.Space self.old self.new StraightCall result }
+        ensures bounds { is_ok result ≡ true → Bounded S.Space self.old self.new }
+        ensures spared { is_ok result ≡ true → Spared S.Space self.old self.new }
         ensures unchanged { is_err result ≡ true → self.new ≡ self.old }
         ensures stays { self.new.space ≡ self.old.space }
     {
@@ -145,7 +146,7 @@ impl<S: Space> Net<S> {
     /// Makes the best hook move of the tree and answers what it saves. Refused where no tree stands (13) or no move saves wire (14). The time grows
     /// with the square of the rows.
     pub fn hook(&mut self) -> Result<u64, Fault>
-        ensures answer { Answered (geometry S.Space self.old) self.old self.new HookCall result }
+        ensures answer { Answered S.Space self.old self.new HookCall result }
         ensures unchanged { is_err result ≡ true → self.new ≡ self.old }
         ensures stays { self.new.space ≡ self.old.space }
     {
@@ -195,7 +196,8 @@ impl<S: Space> Net<S> {
     fn sink(&self, tree: &Tree, k: usize) -> Option<Worst>
         requires pin { k < self.now.state.pins }
         requires stands { self.now.state.tree ≡ Some tree.now.rows }
-        ensures { BestOf worst_before (SinkAt (edge_length S.Space self.now.space) self.now.state tree.now.rows k) result }
+        ensures { BestOf worst_before
+            (SinkAt (edge_length S.Space self.now.space) self.now.state tree.now.rows k) result }
     {
         if k == 0 {
             return None;
@@ -218,10 +220,10 @@ impl<S: Joining> Net<S> {
     /// Builds the straight tree of the seed and joins its breakpoints pair after pair, in place of a tree that stands, and answers the wire. Refused
     /// as `straight` is (6, 11, 12).
     pub fn joined(&mut self) -> Result<u64, Fault>
-        ensures answer { JoinAnswered (joining_geometry S.Space S.Joining.own self.old) self.old self.new JoinedCall result }
-        ensures bounds { is_ok result ≡ true → Bounded (joining_geometry S.Space S.Joining.own self.old) self.old self.new }
-        ensures spared { is_ok result ≡ true → Spared (joining_geometry S.Space S.Joining.own self.old) self.old self.new }
-        ensures shorter { is_ok result ≡ true → NoLonger (joining_geometry S.Space S.Joining.own self.old) self.old self.new }
+        ensures answer { JoinAnswered S.Space S.Joining.own self.old self.new JoinedCall result }
+        ensures bounds { is_ok result ≡ true → JoinBounded S.Space S.Joining.own self.old self.new }
+        ensures spared { is_ok result ≡ true → JoinSpared S.Space S.Joining.own self.old self.new }
+        ensures shorter { is_ok result ≡ true → NoLonger S.Space S.Joining.own self.old self.new }
         ensures unchanged { is_err result ≡ true → self.new ≡ self.old }
         ensures stays { self.new.space ≡ self.old.space }
     {
@@ -232,7 +234,7 @@ impl<S: Joining> Net<S> {
     /// Makes the best share move of the tree and answers what it saves. Refused, in this order, where no tree stands (13), no move saves wire (14), or
     /// the tree has 768 rows (15). The time grows with the square of the rows.
     pub fn share(&mut self) -> Result<u64, Fault>
-        ensures answer { JoinAnswered (joining_geometry S.Space S.Joining.own self.old) self.old self.new ShareCall result }
+        ensures answer { JoinAnswered S.Space S.Joining.own self.old self.new ShareCall result }
         ensures unchanged { is_err result ≡ true → self.new ≡ self.old }
         ensures stays { self.new.space ≡ self.old.space }
     {

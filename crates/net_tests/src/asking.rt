@@ -16,7 +16,7 @@ pub(crate) fn at(x: i32, y: i32) -> Spot {
 #[derive(Clone, Copy)]
 pub(crate) enum Said {
     Is(u64),
-    // Kept: the tests pin the numbers that users are told, not the names behind them.
+    // Numbers and not names: these are what users are told.
     No(u8),
     One,
     Two,
@@ -77,7 +77,7 @@ fn mixed(sum: u64, n: u64) -> u64 {
     (sum ^ n).wrapping_mul(1_099_511_628_211)
 }
 
-// A number that every answer of `row`, `path` and `worst` goes into. Kept: there is no `From` between `usize` and `u64`, and `try_from` would need a value for a failure that can't come.
+// A number that every answer of `row`, `path` and `worst` goes into.
 pub(crate) fn print_of<S: Space>(net: &Net<S>) -> u64 {
     let mut sum = 0;
     for k in 0..800 {

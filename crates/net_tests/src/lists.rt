@@ -9,7 +9,7 @@ use space_tests::line::Line;
 use std::process::Abort;
 use std::test::Fail;
 
-// Kept: a constant calls no function, `Spot::default` neither.
+// A constant calls no function, `Spot::default` neither.
 const O: Spot = Spot {
     x: 0,
     y: 0,

@@ -9,7 +9,7 @@ use space::{Space, Spot};
 use std::process::Abort;
 use std::test::Fail;
 
-// Kept: a constant calls no function, `Spot::default` neither.
+// A constant calls no function, `Spot::default` neither.
 const O: JoinCall = JoinCall::Wire(Call::Pin(Spot {
     x: 0,
     y: 0,
@@ -141,7 +141,7 @@ const SQUARE: [(JoinCall, Said); 5] = [
 ];
 
 // The net in the plane that the calls leave, once they answered so.
-// Kept: the calls and what they answer are two slices; tried a list of pairs of any length (`const N`), and nothing is known of its `map`.
+// The calls, and what they answer.
 fn net_of(
     rt: &(impl Abort + AllocGlobal),
     calls: &[JoinCall],

@@ -8,13 +8,6 @@ use Rattle.seed.specs.declared.store.SeedFault.{SeedFault}
 use Rattle.seed.specs.declared.store.SeedFault.TheVariants as fault
 use Rattle.seed.specs.declared.store.TheConstants.{NODES}
 
--- The edges in the order in which they were taken, and how many nodes there are.
-abbrev pub edges_of : Seed → List Edge
-edges_of s = s.edges
-
-abbrev pub nodes_of : Seed → ℕ
-nodes_of s = s.nodes
-
 -- Both numbers are nodes.
 abbrev pub Inside : Seed → (a b : ℕ) → Type 0
 Inside s a b = (a < s.nodes) × (b < s.nodes)

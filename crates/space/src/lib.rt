@@ -48,7 +48,9 @@ pub trait Joining: Space {
 
     /// The meet of `a` and `b` seen from `o`; nothing exactly where one of the three is not admitted.
     fn meet(&self, o: Spot, a: Spot, b: Spot) -> Option<Spot>
-        ensures { result ≡ answered (Self.Space.admitted self.now o && Self.Space.admitted self.now a && Self.Space.admitted self.now b) (meeting self.now o a b) };
+        ensures { result ≡ answered
+            (Self.Space.admitted self.now o && Self.Space.admitted self.now a && Self.Space.admitted self.now b)
+            (meeting self.now o a b) };
 
     ghost meets: { (s : Self) → Self.Space.width s ≤ LONGEST → Meets (Self.Space.admitted s) (Self.Space.between s) (meeting s) };
 }
