@@ -1,6 +1,5 @@
 // How many meets joining asks for where the members lie on a ray from the driver. Entered from far to near, the meets of a member with all
 // lower ones are equally far.
-ghost use Rattle.std.specs.Prelude.{◌≡◌};
 ghost use Rattle.built_spaces.specs.Grid.{plane_meets, plane_metric};
 ghost use Rattle.built_spaces.specs.Shapes.{grid_between, grid_meeting, in_range};
 

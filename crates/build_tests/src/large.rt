@@ -57,9 +57,9 @@ fn hangs<S: Space>(net: &Net<S>, k: usize) -> bool {
 fn check_tree<S: Space>(rt: &impl Abort, net: &Net<S>, expected: u64) {
     assert_eq!(rt; wire(net), expected);
     for k in 0..768 {
-        if let Ok(reach) = net.path(k) {
-            assert!(rt; reach.path <= 1_000_000 && reach.direct <= 1_000_000);
-            assert!(rt; 4 * reach.path <= 5 * reach.direct);
+        if let Ok(path) = net.path(k) {
+            assert!(rt; path.path <= 1_000_000 && path.direct <= 1_000_000);
+            assert!(rt; 4 * path.path <= 5 * path.direct);
         }
         assert!(rt; net.row(k).is_err() || hangs(net, k));
     }

@@ -1,4 +1,4 @@
-//! A large net, built and shortened until no move is left; and the calls that build and join trees, on tables of their own.
+//! A large net, built and shortened until no move is left; and the calls that build and join trees, each on a tree of its own.
 
 #![tactic(auto)]
 

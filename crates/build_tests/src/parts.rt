@@ -1,4 +1,4 @@
-// The calls that build and join trees, on tables of their own.
+// The calls that build and join trees, each on a tree of its own.
 use crate::spots::at;
 use joined::Joiner;
 use seed::Seed;

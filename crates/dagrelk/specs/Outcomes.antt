@@ -1,7 +1,6 @@
 -- What C is told of a run. Assumes nothing.
 use Rattle.std.specs.Prelude.{◌≡◌, ◌⊎◌, ℕ, Bool, true, false, List}
 use Rattle.job.specs.Jobs.{AsksNet, JobRan}
-use Rattle.job.specs.declared.running.Outcome.{Outcome}
 use Rattle.dagrelk.specs.declared.TheConstants.{ANSWERED, NO_MEMORY, NO_ROOM}
 use Rattle.dagrelk.specs.declared.DagrelkOutcome.{DagrelkOutcome}
 

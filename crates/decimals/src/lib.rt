@@ -2,7 +2,7 @@
 
 #![tactic(auto)]
 
-ghost use Rattle.std.specs.Prelude.{◌≡◌, ◌^◌, ◌↔◌, IsTrue};
+ghost use Rattle.std.specs.Prelude.{◌^◌, ◌↔◌, IsTrue};
 ghost use Rattle.decimals.specs.Decimals.{Begins, BeginsSigned, ReadsBelow, ReadsSigned};
 
 /// Whether a text begins as a number does: with no plus, and with a zero only where nothing follows.

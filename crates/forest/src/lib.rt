@@ -5,7 +5,10 @@
 /// An edge joins the nodes `a` and `b`.
 #[derive(Clone, Copy)]
 pub struct Edge {
+    /// One end, a node's number.
     pub a: usize,
+    /// The other end, a node's number.
     pub b: usize,
+    /// Its length, in units of the space's distance.
     pub length: u64,
 }

@@ -1,6 +1,6 @@
 // Lists of calls, made on a net.
 ghost use Rattle.std.specs.Prelude.{◌≡◌, ℕ, ◌≤◌, min, map, length, take, Result as Answered, slice_index_or};
-ghost use Rattle.net_laws.specs.Spaces.{joining as joiningWorld, wiring as wiringWorld};
+ghost use Rattle.net_laws.specs.Spaces.{joining as joiningGeometry, wiring as wiringGeometry};
 ghost use Rattle.net_laws.specs.declared.fault.Fault.{Fault as Refusal};
 ghost use Rattle.net_laws.specs.Guarantee.{RunsKeep};
 ghost use Rattle.guarantee.specs.CallsMade.{CallsMade, wired};
@@ -56,7 +56,7 @@ pub fn guarantee<W: Space, J: Joining>(
 ) -> CallCounts
     ensures wiring_count { result.wiring ≡ min (length calls.now) (length answers.old) }
     ensures wiring {
-        CallsMade (wiringWorld W.Space wiring.old.space) wiring.old.state (wired (take result.wiring calls.now))
+        CallsMade (wiringGeometry W.Space wiring.old.space) wiring.old.state (wired (take result.wiring calls.now))
         (take result.wiring answers.new) wiring.new.state
     }
     ensures wiring_rest {
@@ -66,7 +66,7 @@ pub fn guarantee<W: Space, J: Joining>(
     ensures wiring_stays { wiring.new.space ≡ wiring.old.space }
     ensures joining_count { result.joining ≡ min (length joining_calls.now) (length joining_answers.old) }
     ensures joining {
-        CallsMade (joiningWorld J.Space J.Joining.own joining.old.space) joining.old.state
+        CallsMade (joiningGeometry J.Space J.Joining.own joining.old.space) joining.old.state
         (take result.joining joining_calls.now) (take result.joining joining_answers.new) joining.new.state
     }
     ensures joining_rest {

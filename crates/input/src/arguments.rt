@@ -13,8 +13,10 @@ const DEFAULT_RATIO: (u32, u32) = (1, 4);
 /// An argument that is not of its form.
 #[derive(Clone, Copy, Debug, PartialEq, Eq, Error)]
 pub enum BadArgument {
+    /// The price is no number from 0 to 4,294,967,295.
     #[error("the price is not a number from 0 to 4294967295")]
     Price,
+    /// The allowance is not p/q with p from 0 to 1,000 and q from 1 to 1,000.
     #[error("the allowance is not p/q with p from 0 to 1000 and q from 1 to 1000")]
     Allowance,
 }
@@ -22,7 +24,9 @@ pub enum BadArgument {
 /// The price of a lift, 40 where none is given, and the allowance, 1/4 where none is given.
 #[derive(Clone, Copy)]
 pub struct Arguments {
+    /// The price of a lift for each level, in units of distance.
     pub price: u32,
+    /// How much longer than its direct distance a sink's path may be.
     pub allowance: Allowance,
 }
 

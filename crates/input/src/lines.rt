@@ -8,7 +8,9 @@ use std::io;
 /// A spot, and the number of the line that it stands on, from 1.
 #[derive(Clone, Copy)]
 pub struct Entry {
+    /// The number of its line, from 1.
     pub line: u64,
+    /// The spot that the line writes.
     pub spot: Spot,
 }
 

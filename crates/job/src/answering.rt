@@ -29,7 +29,9 @@ pub(crate) trait Answerer {
 /// A net, and which of the calls of a job it has.
 #[derive(Drop)]
 pub(crate) struct OverNet<S: Space, C: JobCall<S>> {
+    /// The net that the lines change.
     pub net: Net<S>,
+    /// Which calls it has; takes no room.
     pub calls: PhantomData<C>,
 }
 

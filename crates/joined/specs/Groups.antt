@@ -1,4 +1,4 @@
--- What is said of pairs in Pairs, of the members of a group, its table and its space. Assumes nothing.
+-- What is said of pairs in Pairs, of the members of a group, its tree and its space. Assumes nothing.
 use Rattle.std.specs.Prelude.{ℕ, List, Option}
 use Rattle.space.specs.declared.Space.{Ghosts}
 use Rattle.space.specs.declared.Joining.{Ghosts as JoinGhosts}

@@ -47,7 +47,7 @@ pub record GroupJoined {X : Type 0} (G : Ghosts X) (J : JoinGhosts X) (s : X) (r
   pub tree : (k : ℕ) → k < length after → OnePath after k
   pub own : Measured G s rows → Own G J s rows group after
 
--- Asked to join the group on the table t₀, the answer is r, and the table is t then.
+-- Asked to join the group on the tree t₀, the answer is r, and the tree is t then.
 abbrev pub JoinedBy : {X : Type 0} → Ghosts X → JoinGhosts X → X → (t₀ : Tree) → List ℕ → Option ℕ → (t : Tree) → Type 0
 JoinedBy G J s t₀ group None t = (Joinable t₀.rows group → ⊥) × (t ≡ t₀)
 JoinedBy G J s t₀ group (Some w) t = GroupJoined G J s t₀.rows group w t.rows

@@ -68,7 +68,7 @@ impl Joiner {
     ghost use Rattle.joined.specs.Joiners.{JoiningStands, Steps, members_of};
     ghost use Rattle.joined.specs.Joinings.{JoinedBy};
 
-    /// Room for as many members as a table can have rows, and none yet.
+    /// Room for as many members as a tree can have rows, and none yet.
     pub fn new(heap: Global) -> Result<Joiner, AllocError>
         ensures { IfOk result (λ joiner. members_of joiner ≡ []) }
     {
@@ -121,7 +121,7 @@ impl Joiner {
 
     /// Joins the members, pair after pair, and answers the wire: the two whose meet, seen from the driver, is farthest from it, of equally
     /// far ones those with the lowest smaller number, then the lowest larger one; the meet becomes a new row on the driver and the parent of
-    /// both, and takes their place. Nothing, with the table as it was, where the members are not rows that hang on the driver in rising order
+    /// both, and takes their place. Nothing, with the tree as it was, where the members are not rows that hang on the driver in rising order
     /// or there might be no room for the new rows.
     pub fn join<S: Joining>(
         &mut self,

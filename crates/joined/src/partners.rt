@@ -9,11 +9,14 @@ use search::first_until;
 use space::{Joining, LONGEST, capped_distance, meet_or_start};
 use tree::Tree;
 
-/// The members of a group, the table of their rows, and the space that measures it.
+/// The members of a group, the tree of their rows, and the space that measures it.
 #[derive(Drop)]
 pub(crate) struct Group<'a, S: Joining> {
+    /// The joining space that measures the rows.
     pub space: &'a S,
+    /// The tree whose rows the members are.
     pub table: &'a Tree,
+    /// The numbers of the members' rows, rising; at most `ROWS`.
     pub members: &'a [usize],
     ghost few: { length members.now ≤ ROWS },
     ghost rising: { Rising members.now },
@@ -22,8 +25,11 @@ pub(crate) struct Group<'a, S: Joining> {
 /// What a step does to the group: the members `a` and `b` go, and `new` comes.
 #[derive(Clone, Copy)]
 pub(crate) struct Change {
+    /// The row of one member that goes.
     pub a: usize,
+    /// The row of the other member that goes.
     pub b: usize,
+    /// The row that comes, their meet.
     pub new: usize,
 }
 

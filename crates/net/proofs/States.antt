@@ -58,7 +58,7 @@ same_parts a b s p l e t u = λ i.
       nodes = is_prop→PathP (λ j. (e j).nodes ≡ length (vec_items (s j))) (λ j. ℕ_set _ _) a.nodes b.nodes i;
     }
 
--- where the rows stand, they are those of the table
+-- where the rows stand, they are those of t
 pub stood : (b : Bool) (t : Tree) (rows : List Row) → rows_standing b t ≡ Some rows → (b ≡ true) × (rows ≡ t.rows)
 stood true t rows e = (refl, cc)
 stood false t rows e = let z : ◌≡◌ {A = ℕ} 0 1 = cc in absurd (omega arith)

@@ -25,7 +25,7 @@ abbrev pub ratio_of : Option Allowance → Option (ℕ × ℕ)
 ratio_of None = None
 ratio_of (Some a) = Some (a.p, a.q)
 
--- The rows of the table, if they stand as the tree.
+-- The rows of t, if they stand as the tree of the net.
 abbrev pub rows_standing : Bool → Tree → Option (List Row)
 rows_standing true t = Some t.rows
 rows_standing false t = None

@@ -32,7 +32,7 @@ pub(crate) const PINS: usize = 256;
 pub(crate) const POINTS: usize = 256;
 
 /// The spots of the nodes, pins first and then Steiner points; how many of them are pins; the allowance; the edges; and the tree. Where none
-/// stands, the table is for the next, and its memory stays reserved.
+/// stands, the `Tree` is for the next, and its memory stays reserved.
 #[derive(Drop)]
 pub(crate) struct NetState {
     pub(crate) spots: Vec<Spot>,

@@ -22,7 +22,7 @@ use Rattle.net_laws.specs.Geometry.{Geometry}
 use Rattle.net_laws.specs.States.{State}
 use Rattle.net_laws.specs.Spaces.{Placed}
 
--- ---- a world as a space
+-- ---- a geometry as a space
 
 abbrev pub ghosts : Geometry → Ghosts (Unit {0})
 ghosts W = record { admitted = λ _. W.admitted; width = λ _. W.width; between = λ _. W.between }

@@ -1,4 +1,4 @@
--- What a space means to a net, and what ties a net to its space. Assumes nothing.
+-- What a space of the code means to a net, its answers made total, and what ties a net to its space. Assumes nothing.
 use Rattle.std.specs.Prelude.{◌≡◌, ℕ, ◌<◌, ◌≤◌, min, Bool, true, ◌&&◌, List, length, Some, ◌≢◌}
 use Rattle.std.specs.Option.{unwrap_or}
 use Rattle.forest.specs.Edges.{Sound}

@@ -26,7 +26,9 @@ pub(crate) enum Said {
 // How far pin 1 and pin 2 are from the driver.
 #[derive(Clone, Copy, Default)]
 pub(crate) struct Away {
+    /// Pin 1, in units of distance.
     pub one: u64,
+    /// Pin 2, in units of distance.
     pub two: u64,
 }
 

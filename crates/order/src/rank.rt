@@ -6,6 +6,7 @@ ghost use Rattle.order.specs.Orders.{Order};
 pub trait Rank: Sized {
     ghost before: { Self → Self → Bool };
 
+    /// Whether this candidate comes before the other.
     fn precedes(&self, other: &Self) -> bool
         ensures { result ≡ before self.now other.now };
 

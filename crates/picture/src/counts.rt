@@ -7,15 +7,20 @@ use crate::job::JobLine;
 /// How many pins a net has, and how many Steiner points.
 #[derive(Clone, Copy, Debug, Default, PartialEq, Eq)]
 pub struct Counts {
+    /// How many pins, the driver among them.
     pub pins: u64,
+    /// How many Steiner points.
     pub points: u64,
 }
 
 /// What a row of a tree is.
 #[derive(Clone, Copy, Debug, PartialEq, Eq)]
 pub enum Kind {
+    /// Row 0.
     Driver,
+    /// A row from 1 to the number of pins - 1: a sink.
     Pin,
+    /// A Steiner point: the rows after the pins.
     Steiner,
     /// A row that was added where wires part.
     Meet,

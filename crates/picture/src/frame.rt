@@ -13,16 +13,22 @@ pub const MARGIN: u64 = 600;
 /// A point of the sheet: x goes right and y down, both from the upper left corner.
 #[derive(Clone, Copy, Debug, PartialEq, Eq)]
 pub struct Place {
+    /// How far right of the left edge of the sheet.
     pub x: u64,
+    /// How far below its upper edge.
     pub y: u64,
 }
 
 /// The box of some spots.
 #[derive(Clone, Copy, Debug, PartialEq, Eq)]
 pub struct Frame {
+    /// The least x of the spots.
     pub left: i32,
+    /// The greatest x.
     pub right: i32,
+    /// The least y.
     pub bottom: i32,
+    /// The greatest y.
     pub top: i32,
     ghost across: { left ≤ℤ right },
     ghost upright: { bottom ≤ℤ top },

@@ -8,7 +8,9 @@ use std::alloc::{AllocError, Global};
 /// The space that a W line names, as far as wires are drawn by it: square over plane, also under a lift; straight through air.
 #[derive(Clone, Copy, Debug, PartialEq, Eq)]
 pub enum SpaceWord {
+    /// Wires go along x and then along y.
     Plane,
+    /// Wires go straight.
     Air,
 }
 

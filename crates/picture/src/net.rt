@@ -8,8 +8,11 @@ use crate::job::{JobLine, SpaceWord};
 /// A net: its space, its pins and Steiner points, and its worst sink, where it was asked for since the last change.
 #[derive(Clone, Copy, Debug, PartialEq, Eq)]
 pub struct KnownNet {
+    /// Its space, which says how wires are drawn.
     pub space: SpaceWord,
+    /// How many pins and Steiner points it has.
     pub counts: Counts,
+    /// The number of the worst sink's row; `None` where it was not asked for since the last change.
     pub worst: Option<u64>,
 }
 

@@ -20,31 +20,42 @@ pub const PAPER: &str = "#ffffff";
 /// A row of a table with its number, as a shape's title has it.
 #[derive(Clone, Copy)]
 pub struct Title {
+    /// The row's number; 0 is the driver.
     pub number: u64,
+    /// What the row holds.
     pub row: DrawnRow,
 }
 
 /// A wire from a parent's place to a row's.
 #[derive(Clone, Copy)]
 pub struct Wire {
+    /// The row that hangs by the wire.
     pub title: Title,
+    /// The space, which says whether the wire bends.
     pub space: SpaceWord,
+    /// The place of the parent.
     pub from: Place,
+    /// The place of the row.
     pub to: Place,
 }
 
 /// The mark of a row at its place.
 #[derive(Clone, Copy)]
 pub struct Mark {
+    /// The row that is marked.
     pub title: Title,
+    /// What the row is, which gives the mark its shape.
     pub kind: Kind,
+    /// The place of the row.
     pub at: Place,
 }
 
 /// The ring round the worst sink.
 #[derive(Clone, Copy)]
 pub struct Ring {
+    /// The row of the worst sink.
     pub title: Title,
+    /// The place of that row.
     pub at: Place,
 }
 

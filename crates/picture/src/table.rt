@@ -15,7 +15,9 @@ use std::collections::BTreeMap;
 /// A complete table: the rows of a tree by their numbers, and the net whose tree it is.
 #[derive(Drop)]
 pub struct DrawnTable {
+    /// The rows by their numbers; row 0 is the driver.
     pub rows: BTreeMap<u64, DrawnRow>,
+    /// What is known of the net.
     pub net: KnownNet,
 }
 

@@ -1,8 +1,7 @@
 // The lines of an answer.
-ghost use Rattle.std.specs.Prelude.{◌≡◌, ◌≤◌, ◌+◌, ◌++◌, codes, decimal, length};
-ghost use Rattle.std.specs.Fmt.{signed_decimal};
+ghost use Rattle.std.specs.Prelude.{◌≡◌, ◌≤◌, ◌+◌, ◌++◌, length};
 ghost use Rattle.arrayvec.specs.ArrayString.{array_string_len};
-ghost use Rattle.reply.specs.Texts.{comma, last_text, layer_letter, no_text, ok_text, refused_as, row_text, values_of};
+ghost use Rattle.reply.specs.Texts.{comma, last_text, layer_letter, no_text, ok_text, row_text, values_of};
 ghost use Rattle.net_laws.specs.Faults.{layer_of};
 
 use crate::reply::Reply;

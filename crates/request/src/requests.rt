@@ -3,7 +3,9 @@ use net_laws::JoinCall;
 /// The space that a word names.
 #[derive(Clone, Copy, Debug, PartialEq, Eq)]
 pub enum Word {
+    /// The plane, a joining space.
     Plane,
+    /// The air, which has no meet.
     Air,
 }
 

@@ -9,15 +9,20 @@ pub const TURNS: u32 = 768 * 768;
 /// How many moves of one kind were made, and what they saved.
 #[derive(Clone, Copy, Default)]
 pub struct Made {
+    /// How many moves were made.
     pub moves: u64,
+    /// How much wire they saved in all, in units of distance.
     pub saved: u64,
 }
 
 /// What refining did, and whether it went on until it was refused.
 #[derive(Clone, Copy, Default)]
 pub struct Refined {
+    /// The hook moves.
     pub hooks: Made,
+    /// The share moves.
     pub shares: Made,
+    /// Whether the last turn made no move; false where each of `TURNS` turns made one.
     pub refused: bool,
 }
 

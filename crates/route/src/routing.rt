@@ -25,9 +25,13 @@ impl From<io::Error> for Stop {
 /// A net that is routed: where its report is printed, the space that it is in, and the allowance that it is built by.
 #[derive(Drop)]
 pub struct Route<'a, S: Space> {
+    /// Where the report is printed.
     pub rt: &'a HostRuntime,
+    /// The net that is routed.
     pub net: Net<S>,
+    /// The space that the net is in.
     pub space: S,
+    /// The allowance of every sink.
     pub allowance: Allowance,
 }
 

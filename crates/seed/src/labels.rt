@@ -1,4 +1,4 @@
-ghost use Rattle.std.specs.Prelude.{◌≡◌, ℕ, ◌<◌, ◌≤◌, List, [], ◌∷◌, ◌++◌, length, vec_capacity, ◌↔◌, IfOk, IsTrue};
+ghost use Rattle.std.specs.Prelude.{◌≡◌, ◌<◌, ◌≤◌, List, [], ◌∷◌, ◌++◌, length, vec_capacity, ◌↔◌, IfOk, IsTrue};
 ghost use Rattle.forest.specs.declared.Edge.{Edge};
 ghost use Rattle.forest.specs.Edges.{Joined};
 ghost use Rattle.seed.specs.Labelled.{Labelled};

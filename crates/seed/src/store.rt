@@ -1,4 +1,4 @@
-ghost use Rattle.std.specs.Prelude.{◌≡◌, ℕ, ◌<◌, ◌≤◌, ◌↔◌, [], length, vec_capacity, IfOk, IsTrue};
+ghost use Rattle.std.specs.Prelude.{◌≡◌, ◌<◌, ◌≤◌, ◌↔◌, [], length, vec_capacity, IfOk, IsTrue};
 ghost use Rattle.forest.specs.Edges.{Fit, Joined, Sound, edge, wire};
 ghost use Rattle.forest.specs.Growth.{Grows, LeastOf, head_of};
 ghost use Rattle.forest.specs.Rooted.{Forest};

@@ -8,6 +8,7 @@ use crate::store::Seed;
 /// A seed whose edges are one fewer than its nodes, as `Seed::as_tree` found it. Who is passed one need not ask again.
 #[derive(Drop)]
 pub struct SeedTree<'a> {
+    /// The seed, a tree over its nodes.
     pub seed: &'a Seed,
     ghost whole: { length seed.now.edges + 1 ≡ seed.now.nodes },
 }

@@ -1,4 +1,4 @@
--- How a table takes a new row between a row and two of its children, row by row. Assumes nothing.
+-- How a tree takes a new row between a row and two of its children, row by row. Assumes nothing.
 use Rattle.std.proofs.Common.{◌≡◌, ℕ, ◌<◌, ◌≤◌, List, length, None, Ok, Err, Result, sym, ap, ◌∙◌, subst, ⊎_elim, arith}
 use Rattle.std.proofs.lemmas.Bool.{cases_lt}
 use Rattle.std.specs.Result.{result_ok}
@@ -18,7 +18,7 @@ use Rattle.share.specs.Meets.{Insertable}
 pub parent_row : (t : Tree) (v c : ℕ) → Child t.rows v c → v < length t.rows
 parent_row t v c k = let P : ℕ → Type 0 = λ x. x < length t.rows in subst P k.parent (t.tree.parents c k.row)
 
--- a table that has no room for the row of a move is full
+-- a tree that has no room for the row of a move is full
 pub full_table : (t : Tree) (d : Spot → Spot → ℕ) (j : Spot → Spot → Spot → Spot) (m : Share) → ShareMove t.rows d j m → (Insertable t.rows m.v m.a m.b → ⊥) → length t.rows ≡ 768
 full_table t d j m q never =
     ⊎_elim
@@ -48,7 +48,7 @@ module _ (t₀ : Tree) (d : Spot → Spot → ℕ) (j : Spot → Spot → Spot �
   two_hangs : MayHang two b n
   two_hangs = second_hangs t₀.tree v (parent_row t₀ v a ca) z l a la b lb ca cb other
 
-  -- a row is hung on the new one, where the table is known
+  -- a row is hung on the new one, where the tree is known
   hangs_on : (s : Tree) (xs : List Row) (c k l : ℕ) (r : Result (Unit {0}) HangFault) (t : Tree) → s.rows ≡ xs → k ≡ n → MayHang xs c n → l ≤ 100000000 → Changed s c k l r t → t.rows ≡ hang xs c n l
   hangs_on s xs c k l r t e f h short g =
       let P : List Row → Type 0 = λ ys. MayHang ys c n in

@@ -24,7 +24,7 @@ with_spot rows d z v a b = between rows v z (d (row_spot rows v) z) a (d z (row_
 abbrev pub with_meet : List Row → (Spot → Spot → ℕ) → (Spot → Spot → Spot → Spot) → (v a b : ℕ) → List Row
 with_meet rows d j v a b = with_spot rows d (j (row_spot rows v) (row_spot rows a) (row_spot rows b)) v a b
 
--- Asked to put the meet of a and b between v and both, the answer is r, and the table t₀ is t then.
+-- Asked to put the meet of a and b between v and both, the answer is r, and the tree t₀ is t then.
 abbrev pub MeetInserted : {X : Type 0} → Ghosts X → JoinGhosts X → X → (t₀ : Tree) → (v a b : ℕ) → Option ℕ → (t : Tree) → Type 0
 MeetInserted G J s t₀ v a b None t = (Insertable t₀.rows v a b → ⊥) × (t ≡ t₀)
 MeetInserted G J s t₀ v a b (Some k) t =

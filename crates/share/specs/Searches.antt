@@ -7,7 +7,7 @@ use Rattle.space.specs.Totals.{meet_or_start, capped_distance}
 use Rattle.tree_laws.specs.Shares.{ShareMove}
 use Rattle.share.specs.declared.sharing.ShareSearch.{ShareSearch}
 
--- A move of the table that is searched.
+-- A move of the tree that is searched.
 abbrev pub MoveIn : {X : Type 0} → Ghosts X → JoinGhosts X → ShareSearch X → Share → Type 0
 MoveIn G J q = ShareMove q.table.now.rows (capped_distance G q.space.now) (meet_or_start G J q.space.now)
 

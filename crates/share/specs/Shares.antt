@@ -1,4 +1,4 @@
--- What a call for the best share move answers, and what it does to the table. Assumes nothing.
+-- What a call for the best share move answers, and what it does to the tree. Assumes nothing.
 use Rattle.std.specs.Prelude.{◌≡◌, ℕ, ◌+◌, ◌<◌, List, length, Some, None, Ok, Err, Result}
 use Rattle.order.specs.Bests.{BestOf}
 use Rattle.space.specs.declared.Space.{Ghosts}
@@ -41,7 +41,7 @@ pub record NoRoom {X : Type 0} (G : Ghosts X) (J : JoinGhosts X) (s : X) (rows :
   pub own : Measured G s rows → BestOf share_before (ShareMove rows (G.between s) (J.meeting s)) (Some move)
   pub full : length rows ≡ ROWS
 
--- Asked to make the best share move on the table t₀, the answer is r, and the table is t then.
+-- Asked to make the best share move on the tree t₀, the answer is r, and the tree is t then.
 abbrev pub Shared : {X : Type 0} → Ghosts X → JoinGhosts X → X → (t₀ : Tree) → Result ℕ ShareFault → (t : Tree) → Type 0
 Shared G J s t₀ (Err Nothing) t =
     BestOf share_before (ShareMove t₀.rows (capped_distance G s) (meet_or_start G J s)) None

@@ -12,7 +12,7 @@ pub fn hangs(table: &Tree, v: usize, c: usize) -> bool
     c != 0 && table.row(c).is_some_and(|row| row.parent == v)
 }
 
-/// Puts the meet of the rows `a` and `b`, seen from `v`, between `v` and both as a new row and answers its number. Refused, with the table
+/// Puts the meet of the rows `a` and `b`, seen from `v`, between `v` and both as a new row and answers its number. Refused, with the tree
 /// as it was, where `a` and `b` are not two different children of `v` or there is no room for another row.
 pub fn insert_meet<S: Joining>(
     space: &S,

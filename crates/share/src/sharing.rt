@@ -21,7 +21,7 @@ pub enum ShareFault {
     Full,
 }
 
-/// The search for the best move of a table, in the space that measures its rows.
+/// The search for the best move of a tree, in the space that measures its rows.
 #[derive(Drop)]
 struct ShareSearch<'a, S: Joining> {
     space: &'a S,
@@ -63,7 +63,7 @@ impl<'a, S: Joining> ShareSearch<'a, S> {
     }
 }
 
-/// Makes the best share move and answers what it saves; the table stays as it was where no move saves 1 or more, and where there is no
+/// Makes the best share move and answers what it saves; the tree stays as it was where no move saves 1 or more, and where there is no
 /// room for another row.
 pub fn share_best<S: Joining>(space: &S, table: &mut Tree) -> Result<u64, ShareFault>
     ensures { Shared S.Space S.Joining.own space.now table.old result table.new }

@@ -11,8 +11,11 @@ use thiserror::Error;
 /// A place where a wire can begin, end or part. As text it is `x,y,level`. The default is the origin: level 0, with x and y 0.
 #[derive(Clone, Copy, PartialEq, Eq, Debug, Default)]
 pub struct Spot {
+    /// Along x; any number.
     pub x: i32,
+    /// Along y; any number.
     pub y: i32,
+    /// The level; any number. A space says which spots it admits.
     pub level: i32,
 }
 

@@ -6,6 +6,7 @@ ghost use Rattle.space_tests.specs.Laws.{line_metric, line_meets};
 use built_spaces::middle;
 use space::{Joining, Space, Spot};
 
+/// The line: level 0, with x from -1,000 to 1,000 and any y; the distance is that along x.
 #[derive(Clone, Copy)]
 pub struct Line;
 

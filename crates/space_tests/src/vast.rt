@@ -6,8 +6,10 @@ ghost use Rattle.space_tests.specs.Laws.{vast_metric};
 
 use space::{Space, Spot};
 
+/// Every spot is admitted; spots with different x are `far` apart, others 0.
 #[derive(Clone, Copy)]
 pub struct Vast {
+    /// The distance of spots with different x, also the width.
     pub far: u64,
 }
 

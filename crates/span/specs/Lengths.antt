@@ -1,9 +1,7 @@
 -- How far apart two pins are for the spanning seed, and pins that a net can have. Assumes nothing.
-use Rattle.std.specs.Prelude.{◌≡◌, ℕ, ◌<◌, ◌≤◌, min, max, true, ◌&&◌, List, length, ◌≢◌}
+use Rattle.std.specs.Prelude.{◌≡◌, ℕ, ◌<◌, ◌≤◌, true, List, length, ◌≢◌}
 use Rattle.space.specs.Totals.{edge_length}
-use Rattle.std.specs.Option.{unwrap_or}
 use Rattle.space.specs.declared.TheConstants.{LONGEST}
-use Rattle.space.specs.Laws.{answered}
 use Rattle.space.specs.Spots.{spot_of}
 use Rattle.space.specs.declared.Space.{Ghosts}
 use Rattle.space.specs.declared.spot.Spot.{Spot}

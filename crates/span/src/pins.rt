@@ -8,7 +8,9 @@ use span_laws::Link;
 /// Pins in a space, at most as many as a seed can have nodes.
 #[derive(Drop)]
 pub(crate) struct Pins<'a, S: Space> {
+    /// The space that measures them.
     pub space: &'a S,
+    /// Their spots, the driver's first; at most `NODES`.
     pub spots: &'a [Spot],
     ghost few: { length spots.now ≤ NODES },
 }

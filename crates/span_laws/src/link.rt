@@ -6,8 +6,11 @@ use order::Rank;
 /// A candidate edge between two nodes: the shorter first, then the lower u, then the lower v.
 #[derive(Clone, Copy, Debug, PartialEq, Eq)]
 pub struct Link {
+    /// Its length, in units of the space's distance.
     pub length: u64,
+    /// One end, a node's number.
     pub u: usize,
+    /// The other end, a node's number.
     pub v: usize,
 }
 

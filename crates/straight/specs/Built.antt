@@ -58,7 +58,7 @@ pub record Measures {X : Type 0} (G : Ghosts X) (s : X) (spots : List Spot) (p q
 abbrev pub Matches : Seed → List Spot → Type 0
 Matches seed spots = (length seed.edges + 1 ≡ seed.nodes) × (seed.nodes ≡ length spots)
 
--- Asked to build the straight tree of the seed in place of the table t₀, the answer is r and the table is t then. `before` are the
+-- Asked to build the straight tree of the seed in place of the tree t₀, the answer is r and the tree is t then. `before` are the
 -- breakpoints of the tree that was built last, and `found` those that stand listed then.
 abbrev pub Answer : {X : Type 0} → Ghosts X → X → (t₀ : Tree) → (before : List ℕ) → List Spot → (p q pins : ℕ) → Seed → (found : List ℕ) → Option ℕ → (t : Tree) → Type 0
 Answer G s t₀ before spots p q pins seed found None t = (Matches seed spots → ⊥) × (t ≡ t₀) × (found ≡ before)

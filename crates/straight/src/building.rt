@@ -8,7 +8,7 @@ use space::{Space, Spot};
 use std::alloc::{AllocError, Global};
 use walk::Allowance;
 
-/// The memory for building straight trees, reserved once: the table of the walk, and the breakpoints that it found.
+/// The memory for building straight trees, reserved once: the walk, and the breakpoints that it found.
 #[derive(Drop)]
 pub struct Builder {
     walk: walk::Walk,
@@ -26,8 +26,8 @@ impl Builder {
         Ok(Builder { walk, broken })
     }
 
-    /// Builds the straight tree of the seed in place of what the table held, and answers its wire. The sinks are the nodes from 1 to
-    /// `pins` - 1, and `spots` has the spot of each node, those of the pins first. `None`, with the table and the listed breakpoints as they
+    /// Builds the straight tree of the seed in place of what the tree held, and answers its wire. The sinks are the nodes from 1 to
+    /// `pins` - 1, and `spots` has the spot of each node, those of the pins first. `None`, with the tree and the listed breakpoints as they
     /// were, where there is not one spot for each node.
     pub fn straight<S: Space>(
         &mut self,

@@ -1,4 +1,4 @@
--- What the best hook move does to the table. Assumes nothing.
+-- What the best hook move does to the tree. Assumes nothing.
 use Rattle.std.proofs.Common.{◌≡◌, ℕ, ◌<◌, ◌≤◌, List, length, Some, Ok, Err, Result, sym, refl, ap, subst, arith}
 use Rattle.tree_laws.specs.declared.Row.{Row}
 use Rattle.tree_laws.specs.Trees.{RowTree, MayHang, hang, path_length, wire_of}

@@ -1,4 +1,4 @@
--- A table is a tree, its wire is a number of the machine, and an array holds the paths of its rows. Assumes nothing.
+-- The rows of a tree all come up to the driver, its wire is a number of the machine, and an array holds the paths of its rows. Assumes nothing.
 use Rattle.std.proofs.Common.{◌≡◌, ℕ, zero, suc, ◌+◌, ◌<◌, ◌≤◌, ◌^◌, List, get_or, slice_index_or, ◌∙◌, subst, ⊎_elim, arith}
 use Rattle.std.specs.Array.{IsFromFnResultFrom}
 use Rattle.std.specs.Fn.{Called, Mut}

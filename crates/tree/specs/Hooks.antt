@@ -1,4 +1,4 @@
--- What a call for the best hook move answers, and what it does to the table. `d u v` is how far apart the rows u and v are. Assumes nothing.
+-- What a call for the best hook move answers, and what it does to the tree. `d u v` is how far apart the rows u and v are. Assumes nothing.
 use Rattle.std.specs.Prelude.{◌≡◌, ℕ, ◌+◌, ◌<◌, ◌≤◌, List, length, Some, None, Option}
 use Rattle.order.specs.Bests.{BestOf}
 use Rattle.space.specs.declared.Space.{Ghosts}
@@ -21,7 +21,7 @@ pub record HookMade (rows : List Row) (d : ℕ → ℕ → ℕ) (w : ℕ) (after
   pub paths : (k : ℕ) → k < length rows → path_length after k ≤ path_length rows k
   pub tree : (k : ℕ) → k < length after → OnePath after k
 
--- Asked to make the best hook move on the table t₀, the answer is r, and the table is t then. The move is the best by the space's own
+-- Asked to make the best hook move on the tree t₀, the answer is r, and the tree is t then. The move is the best by the space's own
 -- distances wherever the rows are such as a net can have.
 abbrev pub Hooked : {X : Type 0} → Ghosts X → X → (t₀ : Tree) → Option ℕ → (t : Tree) → Type 0
 Hooked G s t₀ None t =

@@ -6,7 +6,7 @@ use Rattle.tree_laws.specs.Distances.{capped_row_distance}
 use Rattle.tree_laws.specs.Hooks.{HookMove}
 use Rattle.tree.specs.declared.refining.HookSearch.{HookSearch}
 
--- A move of the table that is searched.
+-- A move of the tree that is searched.
 abbrev pub MoveIn : {X : Type 0} → (G : Ghosts X) → HookSearch X G → Hook → Type 0
 MoveIn G q = HookMove q.table.now.rows (capped_row_distance G q.space.now q.table.now.rows)
 

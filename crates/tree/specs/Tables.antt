@@ -1,4 +1,4 @@
--- What a table holds, and what its changes answer. Assumes nothing.
+-- What a tree holds, and what its changes answer. Assumes nothing.
 use Rattle.std.specs.Prelude.{◌≡◌, ℕ, ◌<◌, ◌≤◌, true, List, length, Some, None, Ok, Err, Option, Result, slice_index, nat_lt, ◌≢◌}
 use Rattle.space.specs.Laws.{answered}
 use Rattle.space.specs.declared.TheConstants.{LONGEST}
@@ -29,7 +29,7 @@ pub record Fits (t : Tree) (u l : ℕ) : Type 0 where
   pub short : l ≤ LONGEST
   pub room : length t.rows < ROWS
 
--- Asked for one more row at z on u, the table s answers r and is t then.
+-- Asked for one more row at z on u, the tree s answers r and is t then.
 abbrev pub RowAdded : (s : Tree) (u : ℕ) (z : Spot) (l : ℕ) → Option ℕ → (t : Tree) → Type 0
 RowAdded s u z l None t = (Fits s u l → ⊥) × (t ≡ s)
 RowAdded s u z l (Some k) t = Fits s u l × (k ≡ length s.rows) × (t.rows ≡ add s.rows u z l)
@@ -47,7 +47,7 @@ abbrev pub CanHang : List Row → (v u l : ℕ) → Result (Unit {0}) HangFault 
 CanHang rows v u l (Ok _) = MayHang rows v u × (l ≤ LONGEST)
 CanHang rows v u l (Err e) = (MayHang rows v u → l ≤ LONGEST → ⊥) × Refused rows v u l e
 
--- Asked to hang v on u at length l, the table s answers r and is t then.
+-- Asked to hang v on u at length l, the tree s answers r and is t then.
 abbrev pub Changed : (s : Tree) (v u l : ℕ) → Result (Unit {0}) HangFault → (t : Tree) → Type 0
 Changed s v u l (Ok _) t = MayHang s.rows v u × (l ≤ LONGEST) × (t.rows ≡ hang s.rows v u l)
 Changed s v u l (Err e) t = (MayHang s.rows v u → l ≤ LONGEST → ⊥) × Refused s.rows v u l e × (t ≡ s)

@@ -1,4 +1,4 @@
--- The value of a table: its rows, and what holds of them. Assumes nothing.
+-- The value of a tree: its rows, and what holds of them. Assumes nothing.
 use Rattle.std.specs.Prelude.{ℕ, ◌≤◌, List, [], ◌∷◌, length}
 use Rattle.space.specs.declared.TheConstants.{LONGEST}
 use Rattle.space.specs.declared.spot.Spot.{Spot}

@@ -1,4 +1,3 @@
-ghost use Rattle.std.specs.Prelude.{◌≡◌};
 ghost use Rattle.tree_laws.specs.Distances.{Measured};
 ghost use Rattle.tree.specs.Hooks.{Hooked};
 ghost use Rattle.tree.specs.Tables.{Paths};
@@ -8,7 +7,7 @@ use search::first_of_pairs;
 use space::{Space, capped_distance};
 use tree_laws::Hook;
 
-/// The search for the best move of a table: the space that measures its rows, and the path of each row.
+/// The search for the best move of a tree: the space that measures its rows, and the path of each row.
 #[derive(Drop)]
 struct HookSearch<'a, S: Space> {
     space: &'a S,
@@ -54,7 +53,7 @@ impl<'a, S: Space> HookSearch<'a, S> {
     }
 }
 
-/// Makes the best hook move of the table and answers what it saves; nothing, with the table as it was, where no move saves 1 or more.
+/// Makes the best hook move of the tree and answers what it saves; nothing, with the tree as it was, where no move saves 1 or more.
 pub fn hook_best<S: Space>(space: &S, table: &mut Tree) -> Option<u64>
     ensures answer { Hooked S.Space space.now table.old result table.new }
     ensures measured { Measured S.Space space.now table.old.rows

@@ -11,7 +11,7 @@ use std::marker::Model;
 use thiserror::Error;
 use tree_laws::Row;
 
-/// The most rows that a table can have.
+/// The most rows that a tree can have.
 pub const ROWS: usize = 768;
 
 /// Why a row can't hang on another.
@@ -109,7 +109,7 @@ impl Tree {
     }
 
     /// The path of the row `k`, the sum of the lengths on the one way from the driver down to it; nothing where there is no such row. Costs
-    /// a turn for each row of the table.
+    /// a turn for each row of the tree.
     pub fn path(&self, k: usize) -> Option<u64>
         ensures path { result ≡ path_at self.now.rows k }
         ensures way { k < length self.now.rows → OnePath self.now.rows k }
@@ -148,7 +148,7 @@ impl Tree {
         at == v
     }
 
-    /// Adds a row on `u` and answers its number; nothing, with the table as it was, where `u` is no row, the length is above `LONGEST`, or
+    /// Adds a row on `u` and answers its number; nothing, with the tree as it was, where `u` is no row, the length is above `LONGEST`, or
     /// there are `ROWS` rows.
     pub fn add(&mut self, u: usize, spot: Spot, length: u64) -> Option<usize>
         ensures { RowAdded self.old u spot length result self.new }
@@ -187,7 +187,7 @@ impl Tree {
         Ok(())
     }
 
-    /// Hangs `v` on `u` at another length; refused, with the table as it was, where `v` is the driver, `v` is no row, `u` is no row, the
+    /// Hangs `v` on `u` at another length; refused, with the tree as it was, where `v` is the driver, `v` is no row, `u` is no row, the
     /// length is above `LONGEST`, or `u` is `v` or under it: the first of these reasons is the error.
     pub fn hang(&mut self, v: usize, u: usize, length: u64) -> Result<(), HangFault>
         ensures { Changed self.old v u length result self.new }

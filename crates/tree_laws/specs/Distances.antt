@@ -1,20 +1,12 @@
--- How far apart spots and rows are in a space, where two ways part, and rows whose lengths are distances. Assumes nothing.
-use Rattle.std.specs.Prelude.{◌≡◌, ℕ, ◌<◌, ◌≤◌, min, true, ◌&&◌, List, length, ◌≢◌}
+-- How far apart spots and rows are in a space, and rows whose lengths are distances. Assumes nothing.
+use Rattle.std.specs.Prelude.{◌≡◌, ℕ, ◌<◌, ◌≤◌, true, List, length, ◌≢◌}
 use Rattle.space.specs.Totals.{capped_distance}
-use Rattle.std.specs.Option.{unwrap_or}
-use Rattle.space.specs.Laws.{answered}
 use Rattle.space.specs.declared.TheConstants.{LONGEST}
 use Rattle.space.specs.declared.Space.{Ghosts}
-use Rattle.space.specs.declared.Joining.{Ghosts as JoinGhosts}
-use Rattle.space.specs.declared.spot.Spot.{Spot}
 use Rattle.tree_laws.specs.declared.Row.{Row}
 use Rattle.tree_laws.specs.Trees.{row_length, row_spot, up}
 
--- ---- spots
-
--- ---- rows
-
--- The same of two rows.
+-- The distance of two rows, cut at `LONGEST`.
 abbrev pub capped_row_distance : {X : Type 0} → Ghosts X → X → List Row → ℕ → ℕ → ℕ
 capped_row_distance G s rows u v = capped_distance G s (row_spot rows u) (row_spot rows v)
 

@@ -1,4 +1,4 @@
--- The marks of the walk and its place, as the table of rows holds them. Assumes nothing.
+-- The marks of the walk and its place, as its rows hold them. Assumes nothing.
 use Rattle.std.specs.Prelude.{◌≡◌, ℕ, ◌+◌, ◌*◌, Bool, true, false, cond, ◌&&◌, List, length, Some, None, Option, ◌==◌, ◌≢◌, nat_lt, slice_index_or}
 use Rattle.walk_laws.specs.Walk as laws
 use Rattle.walk.specs.declared.row.Mark.{Mark}

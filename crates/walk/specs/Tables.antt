@@ -1,4 +1,4 @@
--- What a table holds, what its calls answer, and which rows are breakpoints. Assumes nothing.
+-- What a walk holds, what its calls answer, and which rows are breakpoints. Assumes nothing.
 use Rattle.std.specs.Prelude.{◌≡◌, ℕ, ◌<◌, ◌≤◌, cond, ◌⊎◌, List, [], ◌∷◌, ◌++◌, length, get_or, Some, None, vec_items, Option, nat_lt, slice_index_or}
 use Rattle.space.specs.declared.TheConstants.{LONGEST}
 use Rattle.seed.specs.declared.store.TheConstants.{NODES}
@@ -11,7 +11,7 @@ use Rattle.walk.specs.Marks.{idle, directs, fresh_row}
 abbrev pub rows_of : Walk → List NodeRow
 rows_of t = vec_items t.rows
 
--- The table t, asked for one more row with the direct distance d, answers r and is u then.
+-- The walk t, asked for one more row with the direct distance d, answers r and is u then.
 abbrev pub NodeRowAdded : (t : Walk) (d : ℕ) → Option ℕ → (u : Walk) → Type 0
 NodeRowAdded t d None u = ((NODES ≤ length (rows_of t)) ⊎ (LONGEST < d)) × (u ≡ t)
 NodeRowAdded t d (Some k) u =

@@ -25,11 +25,11 @@ pub record Walked (R : laws.Rules) (n : ℕ) (E : List Edge) (S : laws.Marks) : 
   pub is : S ≡ laws.walk R 0 planted.forest laws.start
   pub keeps : WalkGuarantee R n planted.forest S
 
--- The rules of a walk with the direct distances of the table.
+-- The rules of a walk with the direct distances of the rows of t.
 abbrev pub rules_in : Allowance → (pins : ℕ) → Walk → laws.Rules
 rules_in a pins t = walk_rules a.p a.q pins (rows_of t)
 
--- The table t holds what the walk over the seed s gives.
+-- The walk t holds what walking over the seed s gives.
 abbrev pub WalkedOver : laws.Rules → (s : Seed) → (t : Walk) → Type 0
 WalkedOver R s t = Walked R s.nodes s.edges (marks (rows_of t))
 

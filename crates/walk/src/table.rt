@@ -27,7 +27,7 @@ pub struct WalkFault;
 impl Walk {
     ghost use Rattle.walk.specs.Tables.{NodeRowAdded, break_at, direct_at, mark_at, rows_of};
 
-    /// A table without rows. All memory that it will ever use is reserved here.
+    /// A walk without rows. All memory that it will ever use is reserved here.
     pub fn new(heap: Global) -> Result<Walk, AllocError>
         ensures { IfOk result (λ t. rows_of t ≡ []) }
     {
@@ -42,7 +42,7 @@ impl Walk {
         self.rows.clear();
     }
 
-    /// Adds the row of one more node and answers its number; `None`, with the table as it was, where there are `NODES` rows or the
+    /// Adds the row of one more node and answers its number; `None`, with the walk as it was, where there are `NODES` rows or the
     /// direct distance is above `LONGEST`.
     pub fn add(&mut self, direct: u64) -> Option<usize>
         ensures { NodeRowAdded self.old direct result self.new }

@@ -60,7 +60,7 @@ grows_none (grown g b o) k = absurd (k _ _ g.near g.from g.other)
 abbrev pub Open : (n : ℕ) → List Edge → (from from_length next : ℕ → ℕ) → (u v l : ℕ) → Forest → Type 0
 Open n E from from_length next u v l o = (from u ≡ v) × (from_length u ≡ l) × (v < n) × Grows E v (from v) (next v) o
 
--- The loop stands at v after `done` of `total` steps, and will end with the table `final`. No estimate and no offer is above `limit`.
+-- The loop stands at v after `done` of `total` steps, and will end with the marks `final`. No estimate and no offer is above `limit`.
 pub record Place (R : Rules) (n : ℕ) (E : List Edge) (rank : ℕ → ℕ) (total limit : ℕ) (final : Marks) (from from_length next : ℕ → ℕ) (S : Marks) (v done : ℕ) : Type 0 where
   pub left : Forest
   pub trail : Trail
@@ -227,7 +227,7 @@ module _ {R : Rules} {n : ℕ} {E : List Edge} {rank : ℕ → ℕ} {total limit
     pub climbs : Nothing E v (from v) (next v) → done < total → Rise R n E rank total limit final from from_length next S v done
     climbs nothing early = rise P.trail refl (grows_none P.grows nothing) early
 
-  -- All steps done: the table is the walk's.
+  -- All steps done: the marks are the walk's.
   pub place_end : {from from_length next : ℕ → ℕ} {S : Marks} {v : ℕ} → Place R n E rank total limit final from from_length next S v total → S ≡ final
   place_end {S = S} {v} P =
       sym (steps_none R v P.trail P.left S (omega (arith, P.steps))) ∙ P.ends

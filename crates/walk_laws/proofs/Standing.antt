@@ -333,7 +333,7 @@ module _ (R : Rules) (n : ℕ) (rank : ℕ → ℕ) (F : Forest) (T : RootedTree
           let P : Marks → Type 0 = λ X. Standing R n rank F r (g + l) v X in
           subst P (fun_ext (λ x. same k.0 x (cases_eq x v))) (stay_stands v u l r g S s k.1.0 k.1.1 k.1.2)
 
--- What each step of the walk keeps, the walk keeps. I is a property of the next rank, the way gone, the place and the table.
+-- What each step of the walk keeps, the walk keeps. I is a property of the next rank, the way gone, the place and the marks.
 module _ (R : Rules) (n : ℕ) (rank : ℕ → ℕ) (T : Forest) where
   pub walk_by : (I : ℕ → ℕ → ℕ → Marks → Type 0) →
       ((v u l : ℕ) → Branch 0 T v u l → (r g : ℕ) (S : Marks) → rank u ≡ r → I r g v S → I (r + 1) (g + l) u (down R v u l S)) →

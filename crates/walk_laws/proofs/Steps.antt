@@ -1,4 +1,4 @@
--- What one step of the walk does to the table: the mark that it changes, by cases, and the others. Assumes that the node that relaxes has an estimate.
+-- What one step of the walk does to the marks: the one that it changes, by cases, and the others. Assumes that the node that relaxes has an estimate.
 use Rattle.std.proofs.Common.{◌≡◌, ℕ, ◌+◌, ◌*◌, ◌<◌, ◌≤◌, Bool, true, false, cond, ◌&&◌, eqb, ltb, ◌⊎◌, Some, None, Option, sym, refl, ap, ◌∙◌, subst, inl, inr, arith}
 use Rattle.std.proofs.lemmas.Bool.{cond-true, cond-false, cond_both, eq-eqb, ne_eqb, eqb-true, ltb-true, ltb-false, and_parts, and_cases, both_ways}
 use Rattle.walk_laws.specs.Walk.{Mark, Marks, Rules, is_a_sink, hung, blank, home, start, put, offered, relaxed, relax, entered, enter}

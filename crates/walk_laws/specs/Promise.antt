@@ -77,7 +77,7 @@ pub record Ways (R : Rules) (n : ℕ) (S : Marks) (path : ℕ → ℕ) : Type 0 
   pub breakpoint : (v : ℕ) → v < n → (S v).broken ≡ true → path v ≡ R.direct v
   pub other : (v : ℕ) → v < n → (v ≢ 0) → (S v).broken ≡ false → path v ≡ path (S v).parent + (S v).edge
 
--- What holds of the table S once the walk over the seed F on the nodes below n is done.
+-- What holds of the marks S once the walk over the seed F on the nodes below n is done.
 pub record WalkGuarantee (R : Rules) (n : ℕ) (F : Forest) (S : Marks) : Type 0 where
   -- the driver stays where it was, at 0 and nobody's child
   pub driver : S 0 ≡ start 0

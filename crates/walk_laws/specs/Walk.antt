@@ -41,7 +41,7 @@ home = hung 0 0 0 false
 abbrev pub start : Marks
 start v = cond (v == 0) home blank
 
--- The table with the mark m at the node v.
+-- The marks S, with the mark m at the node v.
 abbrev pub put : Marks → ℕ → Mark → Marks
 put S v m x = cond (x == v) m (S x)
 
