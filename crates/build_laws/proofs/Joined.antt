@@ -9,7 +9,7 @@ use Rattle.space.specs.declared.spot.Spot.{Spot}
 use Rattle.tree_laws.specs.declared.Row.{Row}
 use Rattle.tree_laws.specs.Trees.{Child, RowTree, row_length, path_length, row_of, row_spot, up, wire_of}
 use Rattle.tree_laws.proofs.Sharing.{between_length, between_new, between_other, between_paths, between_tree, between_wire}
-use Rattle.build_laws.specs.Joining.{Grouped, JoiningKeeps, Joins, JoinedKeeps, PairOf, far_of, meet_group, meet_of, meet_row}
+use Rattle.build_laws.specs.Joining.{Grouped, JoiningKeeps, Joins, JoinedKeeps, PairOf, far_of, meet_group, driver_meet, meet_row}
 use Rattle.build_laws.specs.Joining.Joins.{done, join}
 
 -- what stands in a group without two members stood in it
@@ -29,7 +29,7 @@ among_kept p (y ∷ xs) x m =
 module _ (d : Spot → Spot → ℕ) (m : Spot → Spot → Spot → Spot) (admitted : Spot → Bool) (laws : Meets admitted d m) where
   module _ (rows : List Row) (group : List ℕ) (t : RowTree rows) (g : Grouped d m admitted rows group) (a b : ℕ) (p : PairOf d m group a b) where
     abbrev z : Spot
-    z = meet_of d m rows a b
+    z = driver_meet d m rows a b
 
     pub first_child : Child rows 0 a
     first_child = record { row = g.rows_of a p.first; moves = g.others a p.first; parent = g.hung a p.first }

@@ -8,7 +8,7 @@ use Rattle.space.specs.declared.spot.Spot.{Spot}
 use Rattle.tree_laws.specs.declared.Row.{Row}
 use Rattle.tree_laws.specs.Trees.{Child, RowTree, row_of, row_spot}
 use Rattle.tree_laws.proofs.Sharing.{between_first, between_length, between_new, between_other, between_second, between_tree}
-use Rattle.build_laws.specs.Joining.{PairOf, far_of, meet_group, meet_of, meet_row, others}
+use Rattle.build_laws.specs.Joining.{PairOf, far_of, meet_group, driver_meet, meet_row, others}
 use Rattle.build_laws.proofs.Joined.{among_kept}
 
 -- what passes stays
@@ -51,28 +51,28 @@ module _ (d : Spot → Spot → ℕ) (j : Spot → Spot → Spot → Spot) (rows
   apart e = omega (arith, q.ordered)
 
   abbrev la : ℕ
-  la = d (meet_of d j rows a b) (row_spot rows a)
+  la = d (driver_meet d j rows a b) (row_spot rows a)
 
   abbrev lb : ℕ
-  lb = d (meet_of d j rows a b) (row_spot rows b)
+  lb = d (driver_meet d j rows a b) (row_spot rows b)
 
   pub step_tree : RowTree after
-  step_tree = between_tree t 0 t.some (meet_of d j rows a b) (far_of d j rows a b) a la b lb (hung a q.first) (hung b q.second) apart
+  step_tree = between_tree t 0 t.some (driver_meet d j rows a b) (far_of d j rows a b) a la b lb (hung a q.first) (hung b q.second) apart
 
   pub step_length : length after ≡ length rows + 1
-  step_length = between_length t 0 t.some (meet_of d j rows a b) (far_of d j rows a b) a la b lb (hung a q.first) (hung b q.second) apart
+  step_length = between_length t 0 t.some (driver_meet d j rows a b) (far_of d j rows a b) a la b lb (hung a q.first) (hung b q.second) apart
 
   row_same : (k : ℕ) → k < length rows → (k ≡ a → ⊥) → (k ≡ b → ⊥) → row_of after k ≡ row_of rows k
-  row_same = between_other t 0 t.some (meet_of d j rows a b) (far_of d j rows a b) a la b lb (hung a q.first) (hung b q.second) apart
+  row_same = between_other t 0 t.some (driver_meet d j rows a b) (far_of d j rows a b) a la b lb (hung a q.first) (hung b q.second) apart
 
-  row_new : row_of after (length rows) ≡ record { parent = 0; spot = meet_of d j rows a b; length = far_of d j rows a b }
-  row_new = between_new t 0 t.some (meet_of d j rows a b) (far_of d j rows a b) a la b lb (hung a q.first) (hung b q.second) apart
+  row_new : row_of after (length rows) ≡ record { parent = 0; spot = driver_meet d j rows a b; length = far_of d j rows a b }
+  row_new = between_new t 0 t.some (driver_meet d j rows a b) (far_of d j rows a b) a la b lb (hung a q.first) (hung b q.second) apart
 
   row_first : row_of after a ≡ record { parent = length rows; spot = row_spot rows a; length = la }
-  row_first = between_first t 0 t.some (meet_of d j rows a b) (far_of d j rows a b) a la b lb (hung a q.first) (hung b q.second) apart
+  row_first = between_first t 0 t.some (driver_meet d j rows a b) (far_of d j rows a b) a la b lb (hung a q.first) (hung b q.second) apart
 
   row_second : row_of after b ≡ record { parent = length rows; spot = row_spot rows b; length = lb }
-  row_second = between_second t 0 t.some (meet_of d j rows a b) (far_of d j rows a b) a la b lb (hung a q.first) (hung b q.second) apart
+  row_second = between_second t 0 t.some (driver_meet d j rows a b) (far_of d j rows a b) a la b lb (hung a q.first) (hung b q.second) apart
 
   spot_kept : (k : ℕ) → k < length rows → row_spot after k ≡ row_spot rows k
   spot_kept k h =

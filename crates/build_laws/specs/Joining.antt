@@ -14,11 +14,11 @@ others a b x = not (x == a) && not (x == b)
 
 module _ (d : Spot → Spot → ℕ) (m : Spot → Spot → Spot → Spot) where
   -- The meet of two rows seen from the driver, and how far it is from the driver.
-  abbrev pub meet_of : List Row → (a b : ℕ) → Spot
-  meet_of rows a b = m (row_spot rows 0) (row_spot rows a) (row_spot rows b)
+  abbrev pub driver_meet : List Row → (a b : ℕ) → Spot
+  driver_meet rows a b = m (row_spot rows 0) (row_spot rows a) (row_spot rows b)
 
   abbrev pub far_of : List Row → (a b : ℕ) → ℕ
-  far_of rows a b = d (row_spot rows 0) (meet_of rows a b)
+  far_of rows a b = d (row_spot rows 0) (driver_meet rows a b)
 
   -- Two members of the group, the lower number first.
   pub record PairOf (group : List ℕ) (a b : ℕ) : Type 0 where
@@ -34,7 +34,7 @@ module _ (d : Spot → Spot → ℕ) (m : Spot → Spot → Spot → Spot) where
   -- The meet of a and b becomes a row on the driver and the parent of both, and takes their place in the group.
   abbrev pub meet_row : List Row → (a b : ℕ) → List Row
   meet_row rows a b =
-      between rows 0 (meet_of rows a b) (far_of rows a b) a (d (meet_of rows a b) (row_spot rows a)) b (d (meet_of rows a b) (row_spot rows b))
+      between rows 0 (driver_meet rows a b) (far_of rows a b) a (d (driver_meet rows a b) (row_spot rows a)) b (d (driver_meet rows a b) (row_spot rows b))
 
   abbrev pub meet_group : List ℕ → (a b new : ℕ) → List ℕ
   meet_group group a b new = filter (others a b) group ++ new ∷ []

@@ -23,7 +23,7 @@ use Rattle.request.specs.declared.fault.TextFault.TheVariants.{LongLine, NoLette
 use Rattle.reply.specs.Texts.{answer_text}
 use Rattle.reply.specs.declared.reply.Reply.{Reply}
 use Rattle.reply.specs.declared.reply.Reply.TheVariants.{Number, Path, Worst, Rows}
-use Rattle.job.specs.Answering.{Gives, LineGives, New, Told, Under, log_of, made_by, net_of, stage_after, text_from}
+use Rattle.job.specs.Answering.{Gives, LineGives, New, Told, Under, log_told, made_by, net_of, stage_after, text_from}
 use Rattle.job.specs.Stages.{Follows, Laws, NetFollows, Stage, joins_of, geometry_of}
 use Rattle.job.specs.Stages.Stage.{before, over, without}
 
@@ -86,18 +86,18 @@ module _ (W : Geometry) (joins : Bool) where
   one n m (Ok (asks.Change c)) (Err OutOfPlace) h = elim h [ ]
 
   -- The calls that the lines made over a net are a run of it.
-  pub made : (n : State) (ts : List Told) → Gives (over W joins n) ts → (m : State) × (stage_after (over W joins n) ts ≡ over W joins m) × Runs W n (log_of ts) m
+  pub made : (n : State) (ts : List Told) → Gives (over W joins n) ts → (m : State) × (stage_after (over W joins n) ts ≡ over W joins m) × Runs W n (log_told ts) m
   made n [] g = (n, refl, still)
   made n (t ∷ ts) g =
       let (k, is, f) = g.0.1 in
       let P : Stage → Type 0 = λ s. Gives s ts in
       let (m, end, runs) = made k ts (subst P is g.1) in
-      (m, ap (λ s. stage_after s ts) is ∙ end, join (log_of ts) (made_by t.asked t.answer) (one n k t.asked t.answer f) runs)
+      (m, ap (λ s. stage_after s ts) is ∙ end, join (log_told ts) (made_by t.asked t.answer) (one n k t.asked t.answer f) runs)
 
-  pub over_net : Keeps W → (ts : List Told) → Gives (over W joins fresh) ts → Under (log_of ts) (stage_after (over W joins fresh) ts)
+  pub over_net : Keeps W → (ts : List Told) → Gives (over W joins fresh) ts → Under (log_told ts) (stage_after (over W joins fresh) ts)
   over_net laws ts g =
       let (m, end, runs) = made fresh ts g in
-      let P : Stage → Type 0 = λ s. Under (log_of ts) s in
+      let P : Stage → Type 0 = λ s. Under (log_told ts) s in
       subst P (sym end) (runs, run_keeps W laws runs)
 
 left : (a : Result Request TextFault) (s : Stage) (r : Result Reply TextFault) → Follows a without s r → s ≡ without
@@ -131,28 +131,28 @@ keeps_of Air (Some c) =
     λ h. lifted_metric in_range 2828428 air_between c (narrow_sum 2828428 c h) air_metric in
     record { metric = law; meets = λ h. own_meets _ _ _ (law h) }
 
-over_first : (w : Word) (price : Option ℕ) (s : Stage) (ts : List Told) → s ≡ over (geometry_of w price) (joins_of w) fresh → Gives s ts → Under (log_of ts ++ []) (stage_after s ts)
+over_first : (w : Word) (price : Option ℕ) (s : Stage) (ts : List Told) → s ≡ over (geometry_of w price) (joins_of w) fresh → Gives s ts → Under (log_told ts ++ []) (stage_after s ts)
 over_first w price s ts e g =
     let W = geometry_of w price in
     let P : Stage → Type 0 = λ x. Gives x ts in
-    let Q : Stage → Type 0 = λ x. Under (log_of ts ++ []) (stage_after x ts) in
+    let Q : Stage → Type 0 = λ x. Under (log_told ts ++ []) (stage_after x ts) in
     let R : Log → Type 0 = λ l. Under l (stage_after (over W (joins_of w) fresh) ts) in
-    subst Q (sym e) (subst R (sym (append-nil (log_of ts))) (over_net W (joins_of w) (keeps_of w price) ts (subst P e g)))
+    subst Q (sym e) (subst R (sym (append-nil (log_told ts))) (over_net W (joins_of w) (keeps_of w price) ts (subst P e g)))
 
-from_before : (a : Result Request TextFault) (s : Stage) (r : Result Reply TextFault) (ts : List Told) → Follows a before s r → Gives s ts → Under (log_of ts ++ made_by a r) (stage_after s ts)
+from_before : (a : Result Request TextFault) (s : Stage) (r : Result Reply TextFault) (ts : List Told) → Follows a before s r → Gives s ts → Under (log_told ts ++ made_by a r) (stage_after s ts)
 from_before (Ok (asks.Space w price)) s r ts h g = over_first w price s ts h.1 g
-from_before (Ok (asks.Change c)) s r ts h g = nothing_under (log_of ts ++ made_by (Ok (asks.Change c)) r) s ts h.1 g
-from_before (Ok asks.Rows) s r ts h g = nothing_under (log_of ts ++ []) s ts h.1 g
-from_before (Ok (asks.Path k)) s r ts h g = nothing_under (log_of ts ++ []) s ts h.1 g
-from_before (Ok asks.Worst) s r ts h g = nothing_under (log_of ts ++ []) s ts h.1 g
-from_before (Err e) s r ts h g = nothing_under (log_of ts ++ []) s ts h.1 g
+from_before (Ok (asks.Change c)) s r ts h g = nothing_under (log_told ts ++ made_by (Ok (asks.Change c)) r) s ts h.1 g
+from_before (Ok asks.Rows) s r ts h g = nothing_under (log_told ts ++ []) s ts h.1 g
+from_before (Ok (asks.Path k)) s r ts h g = nothing_under (log_told ts ++ []) s ts h.1 g
+from_before (Ok asks.Worst) s r ts h g = nothing_under (log_told ts ++ []) s ts h.1 g
+from_before (Err e) s r ts h g = nothing_under (log_told ts ++ []) s ts h.1 g
 
 -- What the net holds is under the guarantee.
-pub under : (s : Stage) (ts : List Told) → Laws s → New s → Gives s ts → Under (log_of ts) (stage_after s ts)
+pub under : (s : Stage) (ts : List Told) → Laws s → New s → Gives s ts → Under (log_told ts) (stage_after s ts)
 under before [] laws new g = tt
 under before (t ∷ ts) laws new g = from_before t.asked t.after t.answer ts g.0.1 g.1
-under without ts laws new g = nothing_under (log_of ts) without ts refl g
+under without ts laws new g = nothing_under (log_told ts) without ts refl g
 under (over W joins n) ts laws new g =
     let P : State → Type 0 = λ x. Gives (over W joins x) ts in
-    let Q : State → Type 0 = λ x. Under (log_of ts) (stage_after (over W joins x) ts) in
+    let Q : State → Type 0 = λ x. Under (log_told ts) (stage_after (over W joins x) ts) in
     subst Q (sym new) (over_net W joins laws ts (subst P new g))

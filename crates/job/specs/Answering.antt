@@ -65,9 +65,9 @@ made_by (Ok asks.Worst) r = []
 made_by (Err e) r = []
 
 -- The log of the calls, the newest first.
-abbrev pub log_of : List Told → Log
-log_of [] = []
-log_of (t ∷ ts) = log_of ts ++ made_by t.asked t.answer
+abbrev pub log_told : List Told → Log
+log_told [] = []
+log_told (t ∷ ts) = log_told ts ++ made_by t.asked t.answer
 
 -- The net of a stage is under the guarantee, by the log of the calls that were made on it since it was new.
 abbrev pub Under : Log → Stage → Type 0

@@ -11,7 +11,7 @@ use Rattle.job.specs.Places.{Puts}
 use Rattle.reply.specs.Texts.{answer_text, rows_in}
 use Rattle.reply.specs.declared.reply.Reply.{Reply}
 use Rattle.reply.specs.declared.reply.Reply.TheVariants.{Number, Path, Worst, Rows}
-use Rattle.job.specs.Answering.{Gives, New, Told, Under, log_of, net_of, stage_after, text_from}
+use Rattle.job.specs.Answering.{Gives, New, Told, Under, log_told, net_of, stage_after, text_from}
 use Rattle.job.specs.Stages.{Follows, Stage}
 use Rattle.job.specs.Stages.Stage.{before}
 use Rattle.job.specs.declared.running.Outcome.{Outcome}
@@ -39,7 +39,7 @@ pub record Ran (i : ℕ) (s s₁ : Stage) (job old new : List ℕ) (o : Outcome)
   pub fits : o.bytes ≤ length old
   pub stops : Stops i job (length old) told late o.stopped
   -- after every line what the net holds is under the guarantee
-  pub guarantee : (some rest : List Told) → some ++ rest ≡ told ++ late → New s → Under (log_of some) (stage_after s some)
+  pub guarantee : (some rest : List Told) → some ++ rest ≡ told ++ late → New s → Under (log_told some) (stage_after s some)
 
 -- What a run of a whole job did.
 abbrev pub JobRan : (job old new : List ℕ) → Outcome → Type 0

@@ -45,69 +45,69 @@ has joins Joined = joins
 has joins Share = joins
 
 -- Asked for a call, the net n answers r and is m then.
-abbrev pub Changes : Geometry → Bool → JoinCall → (n m : State) → Result Reply TextFault → Type 0
-Changes W joins c n m (Ok (Number v)) = (has joins c ≡ true) × JoinAnswers W n m c (Ok v)
-Changes W joins c n m (Err (Net e)) = (has joins c ≡ true) × JoinAnswers W n m c (Err e)
-Changes W joins c n m (Err NoCall) = (has joins c ≡ false) × (m ≡ n)
-Changes W joins c n m (Ok (Path r)) = ⊥
-Changes W joins c n m (Ok (Worst w)) = ⊥
-Changes W joins c n m (Ok (Rows count)) = ⊥
-Changes W joins c n m (Err LongLine) = ⊥
-Changes W joins c n m (Err NoLetter) = ⊥
-Changes W joins c n m (Err WrongFields) = ⊥
-Changes W joins c n m (Err (BadField f)) = ⊥
-Changes W joins c n m (Err OutOfPlace) = ⊥
+abbrev pub ChangeReply : Geometry → Bool → JoinCall → (n m : State) → Result Reply TextFault → Type 0
+ChangeReply W joins c n m (Ok (Number v)) = (has joins c ≡ true) × JoinAnswers W n m c (Ok v)
+ChangeReply W joins c n m (Err (Net e)) = (has joins c ≡ true) × JoinAnswers W n m c (Err e)
+ChangeReply W joins c n m (Err NoCall) = (has joins c ≡ false) × (m ≡ n)
+ChangeReply W joins c n m (Ok (Path r)) = ⊥
+ChangeReply W joins c n m (Ok (Worst w)) = ⊥
+ChangeReply W joins c n m (Ok (Rows count)) = ⊥
+ChangeReply W joins c n m (Err LongLine) = ⊥
+ChangeReply W joins c n m (Err NoLetter) = ⊥
+ChangeReply W joins c n m (Err WrongFields) = ⊥
+ChangeReply W joins c n m (Err (BadField f)) = ⊥
+ChangeReply W joins c n m (Err OutOfPlace) = ⊥
 
 -- Asked for its rows, the net n answers r.
-abbrev pub Tables : (n : State) → Result Reply TextFault → Type 0
-Tables n (Ok (Rows count)) = RowsAnswer n (Ok count)
-Tables n (Err (Net e)) = RowsAnswer n (Err e)
-Tables n (Ok (Number v)) = ⊥
-Tables n (Ok (Path r)) = ⊥
-Tables n (Ok (Worst w)) = ⊥
-Tables n (Err LongLine) = ⊥
-Tables n (Err NoLetter) = ⊥
-Tables n (Err WrongFields) = ⊥
-Tables n (Err (BadField f)) = ⊥
-Tables n (Err OutOfPlace) = ⊥
-Tables n (Err NoCall) = ⊥
+abbrev pub RowsReply : (n : State) → Result Reply TextFault → Type 0
+RowsReply n (Ok (Rows count)) = RowsAnswer n (Ok count)
+RowsReply n (Err (Net e)) = RowsAnswer n (Err e)
+RowsReply n (Ok (Number v)) = ⊥
+RowsReply n (Ok (Path r)) = ⊥
+RowsReply n (Ok (Worst w)) = ⊥
+RowsReply n (Err LongLine) = ⊥
+RowsReply n (Err NoLetter) = ⊥
+RowsReply n (Err WrongFields) = ⊥
+RowsReply n (Err (BadField f)) = ⊥
+RowsReply n (Err OutOfPlace) = ⊥
+RowsReply n (Err NoCall) = ⊥
 
 -- Asked for the path of the pin k, the net n answers r.
-abbrev pub Paths : Geometry → (n : State) (k : ℕ) → Result Reply TextFault → Type 0
-Paths W n k (Ok (Path r)) = PathAnswer W.between n k (Ok r)
-Paths W n k (Err (Net e)) = PathAnswer W.between n k (Err e)
-Paths W n k (Ok (Number v)) = ⊥
-Paths W n k (Ok (Worst w)) = ⊥
-Paths W n k (Ok (Rows count)) = ⊥
-Paths W n k (Err LongLine) = ⊥
-Paths W n k (Err NoLetter) = ⊥
-Paths W n k (Err WrongFields) = ⊥
-Paths W n k (Err (BadField f)) = ⊥
-Paths W n k (Err OutOfPlace) = ⊥
-Paths W n k (Err NoCall) = ⊥
+abbrev pub PathReply : Geometry → (n : State) (k : ℕ) → Result Reply TextFault → Type 0
+PathReply W n k (Ok (Path r)) = PathAnswer W.between n k (Ok r)
+PathReply W n k (Err (Net e)) = PathAnswer W.between n k (Err e)
+PathReply W n k (Ok (Number v)) = ⊥
+PathReply W n k (Ok (Worst w)) = ⊥
+PathReply W n k (Ok (Rows count)) = ⊥
+PathReply W n k (Err LongLine) = ⊥
+PathReply W n k (Err NoLetter) = ⊥
+PathReply W n k (Err WrongFields) = ⊥
+PathReply W n k (Err (BadField f)) = ⊥
+PathReply W n k (Err OutOfPlace) = ⊥
+PathReply W n k (Err NoCall) = ⊥
 
 -- Asked for the worst sink, the net n answers r.
-abbrev pub Worsts : Geometry → (n : State) → Result Reply TextFault → Type 0
-Worsts W n (Ok (Worst w)) = WorstAnswer W.between n (Ok w)
-Worsts W n (Err (Net e)) = WorstAnswer W.between n (Err e)
-Worsts W n (Ok (Number v)) = ⊥
-Worsts W n (Ok (Path r)) = ⊥
-Worsts W n (Ok (Rows count)) = ⊥
-Worsts W n (Err LongLine) = ⊥
-Worsts W n (Err NoLetter) = ⊥
-Worsts W n (Err WrongFields) = ⊥
-Worsts W n (Err (BadField f)) = ⊥
-Worsts W n (Err OutOfPlace) = ⊥
-Worsts W n (Err NoCall) = ⊥
+abbrev pub WorstReply : Geometry → (n : State) → Result Reply TextFault → Type 0
+WorstReply W n (Ok (Worst w)) = WorstAnswer W.between n (Ok w)
+WorstReply W n (Err (Net e)) = WorstAnswer W.between n (Err e)
+WorstReply W n (Ok (Number v)) = ⊥
+WorstReply W n (Ok (Path r)) = ⊥
+WorstReply W n (Ok (Rows count)) = ⊥
+WorstReply W n (Err LongLine) = ⊥
+WorstReply W n (Err NoLetter) = ⊥
+WorstReply W n (Err WrongFields) = ⊥
+WorstReply W n (Err (BadField f)) = ⊥
+WorstReply W n (Err OutOfPlace) = ⊥
+WorstReply W n (Err NoCall) = ⊥
 
 -- What follows from what a line asks, or from its refusal as text, over the net n: the answer r and the net m. W is only for line 1.
 abbrev pub NetFollows : Geometry → Bool → Result Request TextFault → (n m : State) → Result Reply TextFault → Type 0
 NetFollows W joins (Err e) n m r = (r ≡ Err e) × (m ≡ n)
 NetFollows W joins (Ok (asks.Space w price)) n m r = (r ≡ Err OutOfPlace) × (m ≡ n)
-NetFollows W joins (Ok (asks.Change c)) n m r = Changes W joins c n m r
-NetFollows W joins (Ok asks.Rows) n m r = Tables n r × (m ≡ n)
-NetFollows W joins (Ok (asks.Path k)) n m r = Paths W n k r × (m ≡ n)
-NetFollows W joins (Ok asks.Worst) n m r = Worsts W n r × (m ≡ n)
+NetFollows W joins (Ok (asks.Change c)) n m r = ChangeReply W joins c n m r
+NetFollows W joins (Ok asks.Rows) n m r = RowsReply n r × (m ≡ n)
+NetFollows W joins (Ok (asks.Path k)) n m r = PathReply W n k r × (m ≡ n)
+NetFollows W joins (Ok asks.Worst) n m r = WorstReply W n r × (m ≡ n)
 
 -- ---- at a stage
 

@@ -15,7 +15,7 @@ use Rattle.order.specs.Lexical.{then_above, then_level}
 use Rattle.order.proofs.Deciding.{Below, decides_first}
 use Rattle.build_laws.specs.Joining.{Farthest, PairOf, far_of}
 use Rattle.build_laws.specs.declared.pair.Pair.{Pair}
-use Rattle.joined.specs.Pairs.{Renewed, Firsts, FirstsOf, Held, Lasting, NoFarther, PairIn, Partner, PartnerAt, Ready, Stale, pair_of}
+use Rattle.joined.specs.Pairs.{PairRenewed, FirstPairs, FirstsOf, Held, Lasting, NoFarther, PairIn, Partner, PartnerAt, PairsReady, Stale, pair_of}
 use Rattle.build_laws.specs.Pairs.{pair_before, pair_order, same_pair}
 use Rattle.joined.specs.Joinings.{Rising}
 use Rattle.joined.proofs.Keeping.{among_here, among_place}
@@ -136,8 +136,8 @@ module _ (d : Spot → Spot → ℕ) (j : Spot → Spot → Spot → Spot) (rows
 
   -- ---- the firsts once a and b have gone
 
-  -- each old pair was kept as `Renewed` says, or left out
-  module _ {S : Type 0} (group : List ℕ) (a b : ℕ) (R : S → Pair → Bool → S → Pair → Type 0) (f : S) (each : (x : Pair) (k : Bool) (t : S) (y : Pair) → R f x k t y → (t ≡ f) × (Stale d j rows group a b x → Renewed d j rows group a b x (cond k (Some y) None))) where
+  -- each old pair was kept as `PairRenewed` says, or left out
+  module _ {S : Type 0} (group : List ℕ) (a b : ℕ) (R : S → Pair → Bool → S → Pair → Type 0) (f : S) (each : (x : Pair) (k : Bool) (t : S) (y : Pair) → R f x k t y → (t ≡ f) × (Stale d j rows group a b x → PairRenewed d j rows group a b x (cond k (Some y) None))) where
     pub renewed : (olds F : List Pair) → RetainsInTurn R f olds F → ((x : Pair) → Among x olds → Stale d j rows group a b x) → FirstsOf d j rows group (Lasting d j a b olds) F
     renewed [] F e stale =
         let P : List Pair → Type 0 = λ xs. FirstsOf d j rows group (Lasting d j a b []) xs in
@@ -153,7 +153,7 @@ module _ (d : Spot → Spot → ℕ) (j : Spot → Spot → Spot → Spot) (rows
         last z (old, here, u, v, w) = inr (sym u)
         last z (old, there i, u, v, w) = inl (old, i, u, v, w)
 
-        next : (k : Bool) → Renewed d j rows group a b x (cond k (Some y) None) → FirstsOf d j rows group (Lasting d j a b xs) zs → FirstsOf d j rows group (Lasting d j a b (x ∷ xs)) (cond k (y ∷ zs) zs)
+        next : (k : Bool) → PairRenewed d j rows group a b x (cond k (Some y) None) → FirstsOf d j rows group (Lasting d j a b xs) zs → FirstsOf d j rows group (Lasting d j a b (x ∷ xs)) (cond k (y ∷ zs) zs)
         next true g f =
             record {
               each = λ p i.
@@ -177,19 +177,19 @@ module _ (d : Spot → Spot → ℕ) (j : Spot → Spot → Spot → Spot) (rows
                   (last n l);
             }
 
-  module _ (group : List ℕ) (a b new : ℕ) (olds : List Pair) (r : Ready d j rows group a b new olds) (F : List Pair) (f : FirstsOf d j rows group (Lasting d j a b olds) F) where
+  module _ (group : List ℕ) (a b new : ℕ) (olds : List Pair) (r : PairsReady d j rows group a b new olds) (F : List Pair) (f : FirstsOf d j rows group (Lasting d j a b olds) F) where
     turned : (x : ℕ) → Among x group → (p : Pair) → Partner d j rows group x p → Lasting d j a b olds x ⊎ (x ≡ new)
     turned x i p q = ⊎_elim (λ (e : x ≡ new). inr e) (λ (y : Lasting d j a b olds x). inl y) (r.all x i p q)
 
-    pub renewed_none : BestOf pair_before (Partner d j rows group new) None → Firsts d j rows group F
+    pub renewed_none : BestOf pair_before (Partner d j rows group new) None → FirstPairs d j rows group F
     renewed_none q = firsts_same group (Lasting d j a b olds) (λ x. Among x group) new turned F f q
 
-    pub renewed_some : (w : Pair) → BestOf pair_before (Partner d j rows group new) (Some w) → Firsts d j rows group (F ++ w ∷ [])
+    pub renewed_some : (w : Pair) → BestOf pair_before (Partner d j rows group new) (Some w) → FirstPairs d j rows group (F ++ w ∷ [])
     renewed_some w q = firsts_push group (Lasting d j a b olds) (λ x. Among x group) new turned F f w (held group new w r.member q) q.0.second
 
   -- ---- the first of the firsts
 
-  pub firsts_decide : (group : List ℕ) (F : List Pair) → Firsts d j rows group F → Decides pair_before (PairIn d j rows group) F
+  pub firsts_decide : (group : List ℕ) (F : List Pair) → FirstPairs d j rows group F → Decides pair_before (PairIn d j rows group) F
   firsts_decide group F f =
       record {
         within = λ m i.
@@ -202,7 +202,7 @@ module _ (d : Spot → Spot → ℕ) (j : Spot → Spot → Spot → Spot) (rows
             (o.0, o.1, (f.each o.0 o.1).best.1 m (subst P (sym o.2) r));
       }
 
-  pub firsts_best : (group : List ℕ) (F : List Pair) (r : Option Pair) → Firsts d j rows group F → FirstOf pair_before F r → BestOf pair_before (PairIn d j rows group) r
+  pub firsts_best : (group : List ℕ) (F : List Pair) (r : Option Pair) → FirstPairs d j rows group F → FirstOf pair_before F r → BestOf pair_before (PairIn d j rows group) r
   firsts_best group F r f g = decides_first pair_order (PairIn d j rows group) F r (firsts_decide group F f) g
 
   paired : (group : List ℕ) (a b : ℕ) → PairOf d j group a b → PairIn d j rows group (pair_of d j rows a b)

@@ -14,7 +14,7 @@ use Rattle.build_laws.specs.declared.pair.Pair.{Pair}
 use Rattle.build_laws.proofs.Joined.{among_kept}
 use Rattle.build_laws.proofs.Meeting.{Old, far_kept, member_of, new_member, old_member, others_first, others_second, step_hung, step_length}
 use Rattle.joined.specs.Joinings.{Joinable, Rising, JoiningState, Stepped}
-use Rattle.joined.specs.Pairs.{Firsts, Partner, Ready}
+use Rattle.joined.specs.Pairs.{FirstPairs, Partner, PairsReady}
 use Rattle.joined.proofs.Keeping.{among_here, kept_two_less}
 use Rattle.joined.proofs.Partnering.{then_lead}
 use Rattle.joined.proofs.Rising.{rising_few, rising_push}
@@ -64,8 +64,8 @@ module _ (d : Spot → Spot → ℕ) (j : Spot → Spot → Spot → Spot) (rows
       let hb : m.b < length rows = omega (arith, p.second) in
       record { member = old_member d j rows t group hung a b q m.a p.member na nb; lower = p.lower; second = p.second; long = p.long ∙ sym (far_kept d j rows t group hung a b q m.a m.b ha hb) }
 
-  module _ (F : List Pair) (f : Firsts d j rows group F) where
-    pub step_ready : length F < 768 → Ready d j after left a b (length rows) F
+  module _ (F : List Pair) (f : FirstPairs d j rows group F) where
+    pub step_ready : length F < 768 → PairsReady d j after left a b (length rows) F
     step_ready few =
         record {
           stale = λ old i.
@@ -96,7 +96,7 @@ module _ (d : Spot → Spot → ℕ) (j : Spot → Spot → Spot → Spot) (rows
         room = omega (arith, s.room, step_shorter d j rows t group s.hung a b q);
       }
 
-  pub step_standing : (G : List Pair) → Firsts d j (meet_row d j rows a b) (meet_group d j group a b (length rows)) G → length G ≤ length F + 1 → JoiningState d j (meet_row d j rows a b) (meet_group d j group a b (length rows)) G
+  pub step_standing : (G : List Pair) → FirstPairs d j (meet_row d j rows a b) (meet_group d j group a b (length rows)) G → length G ≤ length F + 1 → JoiningState d j (meet_row d j rows a b) (meet_group d j group a b (length rows)) G
   step_standing G f h =
       let n = step_length d j rows t group s.hung a b q in
       record {
@@ -118,18 +118,18 @@ module _ (d : Spot → Spot → ℕ) (j : Spot → Spot → Spot → Spot) (rows
     pub rising_at : Rising group'
     rising_at = subst Rising (sym grouped) (step_rising d j rows t group s.hung a b q s.rising)
 
-    pub ready_at : (olds : List Pair) → olds ≡ F → Ready d j rows' group' a b new olds
+    pub ready_at : (olds : List Pair) → olds ≡ F → PairsReady d j rows' group' a b new olds
     ready_at olds eo =
-        let P : List Row → Type 0 = λ xs. Ready d j xs group' a b new olds in
-        let Q : List ℕ → Type 0 = λ xs. Ready d j (meet_row d j rows a b) xs a b new olds in
-        let R : ℕ → Type 0 = λ n. Ready d j (meet_row d j rows a b) (meet_group d j group a b (length rows)) a b n olds in
-        let S : List Pair → Type 0 = λ xs. Ready d j (meet_row d j rows a b) (meet_group d j group a b (length rows)) a b (length rows) xs in
+        let P : List Row → Type 0 = λ xs. PairsReady d j xs group' a b new olds in
+        let Q : List ℕ → Type 0 = λ xs. PairsReady d j (meet_row d j rows a b) xs a b new olds in
+        let R : ℕ → Type 0 = λ n. PairsReady d j (meet_row d j rows a b) (meet_group d j group a b (length rows)) a b n olds in
+        let S : List Pair → Type 0 = λ xs. PairsReady d j (meet_row d j rows a b) (meet_group d j group a b (length rows)) a b (length rows) xs in
         subst P (sym er) (subst Q (sym grouped) (subst R (sym en) (subst S (sym eo) (step_ready d j rows t group s.hung a b q F s.firsts (omega (arith, s.few, s.room))))))
 
-    pub stepped_at : (G : List Pair) → Firsts d j rows' group' G → length G ≤ length F + 1 → Farthest d j rows group a b → 0 < far_of d j rows a b → Stepped d j rows group true rows' group' G
+    pub stepped_at : (G : List Pair) → FirstPairs d j rows' group' G → length G ≤ length F + 1 → Farthest d j rows group a b → 0 < far_of d j rows a b → Stepped d j rows group true rows' group' G
     stepped_at G f h far some =
-        let P : List Row → Type 0 = λ xs. Firsts d j xs group' G in
-        let Q : List ℕ → Type 0 = λ xs. Firsts d j (meet_row d j rows a b) xs G in
+        let P : List Row → Type 0 = λ xs. FirstPairs d j xs group' G in
+        let Q : List ℕ → Type 0 = λ xs. FirstPairs d j (meet_row d j rows a b) xs G in
         let R : List Row → Type 0 = λ xs. Stepped d j rows group true xs group' G in
         let S : List ℕ → Type 0 = λ xs. Stepped d j rows group true (meet_row d j rows a b) xs G in
         subst R (sym er) (subst S (sym grouped) (
@@ -140,7 +140,7 @@ module _ (d : Spot → Spot → ℕ) (j : Spot → Spot → Spot → Spot) (rows
 
 -- ---- the start
 
-pub standing_start : (d : Spot → Spot → ℕ) (j : Spot → Spot → Spot → Spot) (rows : List Row) (group : List ℕ) (F : List Pair) → RowTree rows → Joinable rows group → Firsts d j rows group F → length F ≤ length group → JoiningState d j rows group F
+pub standing_start : (d : Spot → Spot → ℕ) (j : Spot → Spot → Spot → Spot) (rows : List Row) (group : List ℕ) (F : List Pair) → RowTree rows → Joinable rows group → FirstPairs d j rows group F → length F ≤ length group → JoiningState d j rows group F
 standing_start d j rows group F t h f few =
     let at : (k : ℕ) → k < length group → Child rows 0 (get_or group k 0) = λ k l. h.hung (get_or group k 0) (among_here group k 0 l) in
     let n : length group < length rows =

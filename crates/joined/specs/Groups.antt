@@ -6,7 +6,7 @@ use Rattle.space.specs.Totals.{meet_or_start, capped_distance}
 use Rattle.build_laws.specs.declared.pair.Pair.{Pair}
 use Rattle.joined.specs.declared.partners.Change.{Change}
 use Rattle.joined.specs.declared.partners.Group.{Group}
-use Rattle.joined.specs.Pairs.{Firsts, NoFarther, Partner, PartnerAt, Ready, Renewed, Stale, pair_of}
+use Rattle.joined.specs.Pairs.{FirstPairs, NoFarther, Partner, PartnerAt, PairsReady, PairRenewed, Stale, pair_of}
 
 -- The pair of two rows.
 abbrev pub pair_in : {X : Type 0} → (G : Ghosts X) → (J : JoinGhosts X) → Group X J G → (a b : ℕ) → Pair
@@ -26,7 +26,7 @@ NoneFarther G J g b f = NoFarther (capped_distance G g.space.now) (meet_or_start
 
 -- F holds the first pair of each member that has a lower one, and nothing else.
 abbrev pub FirstsIn : {X : Type 0} → (G : Ghosts X) → (J : JoinGhosts X) → Group X J G → List Pair → Type 0
-FirstsIn G J g F = Firsts (capped_distance G g.space.now) (meet_or_start G J g.space.now) g.table.now.rows g.members.now F
+FirstsIn G J g F = FirstPairs (capped_distance G g.space.now) (meet_or_start G J g.space.now) g.table.now.rows g.members.now F
 
 -- What an old pair tells after a step.
 abbrev pub StaleIn : {X : Type 0} → (G : Ghosts X) → (J : JoinGhosts X) → Group X J G → Change → Pair → Type 0
@@ -34,8 +34,8 @@ StaleIn G J g c old = Stale (capped_distance G g.space.now) (meet_or_start G J g
 
 -- The first pair of the member of an old pair, unless it has gone.
 abbrev pub RenewedIn : {X : Type 0} → (G : Ghosts X) → (J : JoinGhosts X) → Group X J G → Change → Pair → Option Pair → Type 0
-RenewedIn G J g c old new = Renewed (capped_distance G g.space.now) (meet_or_start G J g.space.now) g.table.now.rows g.members.now c.a c.b old new
+RenewedIn G J g c old new = PairRenewed (capped_distance G g.space.now) (meet_or_start G J g.space.now) g.table.now.rows g.members.now c.a c.b old new
 
 -- The old pairs serve the group after a step.
 abbrev pub ReadyIn : {X : Type 0} → (G : Ghosts X) → (J : JoinGhosts X) → Group X J G → Change → List Pair → Type 0
-ReadyIn G J g c F = Ready (capped_distance G g.space.now) (meet_or_start G J g.space.now) g.table.now.rows g.members.now c.a c.b c.new F
+ReadyIn G J g c F = PairsReady (capped_distance G g.space.now) (meet_or_start G J g.space.now) g.table.now.rows g.members.now c.a c.b c.new F

@@ -13,7 +13,7 @@ use Rattle.tree_laws.specs.Distances.{Measured}
 use Rattle.space.specs.Totals.{meet_or_start, capped_distance}
 use Rattle.build_laws.specs.Joining.{Joins, JoinedKeeps, PairOf, far_of}
 use Rattle.build_laws.specs.declared.pair.Pair.{Pair}
-use Rattle.joined.specs.Pairs.{Firsts}
+use Rattle.joined.specs.Pairs.{FirstPairs}
 
 -- ---- what can be joined
 
@@ -61,7 +61,7 @@ module _ (d : Spot → Spot → ℕ) (j : Spot → Spot → Spot → Spot) where
     pub rising : Rising group
     pub room : length rows + length group ≤ ROWS
     pub few : length F < length rows
-    pub firsts : Firsts d j rows group F
+    pub firsts : FirstPairs d j rows group F
 
   -- Asked for one step, the answer is r: every meet of two members is 0 from the driver, or the first pair was joined.
   abbrev pub Stepped : List Row → List ℕ → Bool → (after : List Row) → (left : List ℕ) → List Pair → Type 0

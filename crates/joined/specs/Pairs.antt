@@ -49,8 +49,8 @@ module _ (d : Spot → Spot → ℕ) (j : Spot → Spot → Spot → Spot) where
     pub all : (b : ℕ) → B b → (p : Pair) → Partner rows group b p → (w : Pair) × Among w F × (w.b ≡ b)
 
   -- F holds the first pair of each member that has a lower one, and nothing else.
-  abbrev pub Firsts : List Row → List ℕ → List Pair → Type 0
-  Firsts rows group F = FirstsOf rows group (λ b. Among b group) F
+  abbrev pub FirstPairs : List Row → List ℕ → List Pair → Type 0
+  FirstPairs rows group F = FirstsOf rows group (λ b. Among b group) F
 
   -- ---- a and b have gone from the group
 
@@ -61,16 +61,16 @@ module _ (d : Spot → Spot → ℕ) (j : Spot → Spot → Spot → Spot) where
     pub near : (old.b ≢ a) → (old.b ≢ b) → NoFarther rows group old.b old.far
 
   -- The first pair of the member of an old pair, unless it has gone.
-  abbrev pub Renewed : List Row → List ℕ → (a b : ℕ) → Pair → Option Pair → Type 0
-  Renewed rows group a b old None = (old.b ≢ a) → (old.b ≢ b) → (p : Pair) → Partner rows group old.b p → ⊥
-  Renewed rows group a b old (Some w) = Held rows group w × (w.b ≡ old.b)
+  abbrev pub PairRenewed : List Row → List ℕ → (a b : ℕ) → Pair → Option Pair → Type 0
+  PairRenewed rows group a b old None = (old.b ≢ a) → (old.b ≢ b) → (p : Pair) → Partner rows group old.b p → ⊥
+  PairRenewed rows group a b old (Some w) = Held rows group w × (w.b ≡ old.b)
 
   -- A number that has an old pair and has not gone.
   abbrev pub Lasting : (a b : ℕ) → List Pair → ℕ → Type 0
   Lasting a b F x = (old : Pair) × Among old F × (old.b ≡ x) × (x ≢ a) × (x ≢ b)
 
   -- The old pairs F serve the group in which `new` has come for a and b.
-  pub record Ready (rows : List Row) (group : List ℕ) (a b new : ℕ) (F : List Pair) : Type 0 where
+  pub record PairsReady (rows : List Row) (group : List ℕ) (a b new : ℕ) (F : List Pair) : Type 0 where
     pub stale : (old : Pair) → Among old F → Stale rows group a b old
     pub member : Among new group
     pub all : (x : ℕ) → Among x group → (p : Pair) → Partner rows group x p → (x ≡ new) ⊎ Lasting a b F x

@@ -65,7 +65,7 @@ fn fill(group: &mut Vec<usize>, members: &[usize])
 
 impl Joiner {
     ghost use Rattle.std.specs.Prelude.{[], IfOk};
-    ghost use Rattle.joined.specs.Joiners.{JoiningStands, Steps, members_of};
+    ghost use Rattle.joined.specs.Joiners.{JoiningStands, JoiningSteps, members_of};
     ghost use Rattle.joined.specs.Joinings.{JoinedBy};
 
     /// Room for as many members as a tree can have rows, and none yet.
@@ -95,7 +95,7 @@ impl Joiner {
     /// Joins the first pair of all, and answers whether there is one whose meet is not 0 from the driver.
     fn step<S: Joining>(&mut self, space: &S, table: &mut Tree) -> bool
         requires { JoiningStands S.Space S.Joining.own space.now table.old.rows self.old }
-        ensures { Steps S.Space S.Joining.own space.now table.old.rows self.old result
+        ensures { JoiningSteps S.Space S.Joining.own space.now table.old.rows self.old result
             table.new.rows self.new }
     {
         let Some(pair) = first(self.partners.as_slice()) else {

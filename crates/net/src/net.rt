@@ -2,7 +2,7 @@ ghost use Rattle.std.specs.Prelude.{◌≡◌, ◌<◌, true, is_err, is_ok, IfO
 ghost use Rattle.net.specs.NetValue.{Answered, Bounded, JoinAnswered, JoinBounded, JoinSpared, NoLonger, Spared};
 ghost use Rattle.net_laws.specs.Answers.{AllowAnswer};
 ghost use Rattle.net_laws.specs.Readings.{PathAnswer, RowAnswer, RowsAnswer, WorstAnswer, figure_of};
-ghost use Rattle.net_laws.specs.Sinks.{SinkAt};
+ghost use Rattle.net_laws.specs.Sinks.{FiguredSinkAt};
 ghost use Rattle.net_laws.specs.Spaces.{wiring};
 ghost use Rattle.net_laws.specs.States.{fresh};
 ghost use Rattle.net_laws.specs.Worsts.{worst_before};
@@ -197,7 +197,7 @@ impl<S: Space> Net<S> {
         requires pin { k < self.now.state.pins }
         requires stands { self.now.state.tree ≡ Some tree.now.rows }
         ensures { BestOf worst_before
-            (SinkAt (edge_length S.Space self.now.space) self.now.state tree.now.rows k) result }
+            (FiguredSinkAt (edge_length S.Space self.now.space) self.now.state tree.now.rows k) result }
     {
         if k == 0 {
             return None;

@@ -24,7 +24,7 @@ use Rattle.net_laws.specs.declared.call.JoinCall.TheVariants.{Wire, Joined as Jo
 use Rattle.net_laws.specs.declared.fault.Fault.{Fault}
 use Rattle.net_laws.specs.declared.fault.Fault.TheVariants.{Space}
 use Rattle.net_laws.specs.declared.fault.SpaceFault.TheVariants.{TooWide}
-use Rattle.net_cases.specs.Calls.{Ending, Follows, Says, Step, allowing, answers, chain_from, pins_from, refused, seeded, step}
+use Rattle.net_cases.specs.Calls.{Ending, CallsFollow, Says, Step, allowing, answers, chain_from, pins_from, refused, seeded, step}
 
 -- a refusal is not by a question that holds
 past : {Q N X : Type 0} → Q → ((Q → ⊥) × N) ⊎ (Q × X) → X
@@ -44,13 +44,13 @@ is_lawful p q h =
 
 module _ (W : Geometry) (n : State) where
   -- a call that answers k and leaves the net n'
-  told : (n' : State) (k : ℕ) (c : JoinCall) (rest : List Step) (end : Ending) → JoinAnswers W n n' c (Ok k) → ((r : Result ℕ Fault) (m : State) → JoinAnswers W n m c r → (r ≡ Ok k) × (m ≡ n')) → Follows W n' rest end → Follows W n (step c (answers k) ∷ rest) end
+  told : (n' : State) (k : ℕ) (c : JoinCall) (rest : List Step) (end : Ending) → JoinAnswers W n n' c (Ok k) → ((r : Result ℕ Fault) (m : State) → JoinAnswers W n m c r → (r ≡ Ok k) × (m ≡ n')) → CallsFollow W n' rest end → CallsFollow W n (step c (answers k) ∷ rest) end
   told n' k c rest end can is f = (
     record { answer = Ok k; after = n'; stands = can },
     λ r m a.
         let q = is r m a in
         let P : Result ℕ Fault → Type 0 = λ x. Says x (answers k) in
-        let F : State → Type 0 = λ x. Follows W x rest end in
+        let F : State → Type 0 = λ x. CallsFollow W x rest end in
         (subst P (sym q.0) refl, subst F (sym q.1) f),
   )
 
@@ -83,11 +83,11 @@ module _ (W : Geometry) (n : State) where
   pin_only z h (Ok k) m a = let b = a.0.1.1.1.1 in (ap Ok b.0, b.1)
   pin_only z h (Err e) m a = let f = fits_pin_lem z h in absurd (past f.far (past f.few (past f.admits (past f.narrow a.0))))
 
-  pub allow_told : (p q : ℕ) (rest : List Step) (end : Ending) → lawful p q ≡ true → Follows W (with_allowance n p q) rest end → Follows W n (allowing p q ∷ rest) end
+  pub allow_told : (p q : ℕ) (rest : List Step) (end : Ending) → lawful p q ≡ true → CallsFollow W (with_allowance n p q) rest end → CallsFollow W n (allowing p q ∷ rest) end
   allow_told p q rest end h f = (record { answer = Ok 0; after = with_allowance n p q; stands = ((is_lawful p q h, refl), tt, refl) }, only)
     where
-      only : (r : Result ℕ Fault) (m : State) → JoinAnswers W n m (Wire (Allow p q)) r → Says r (answers 0) × Follows W m rest end
-      only (Ok k) m a = let F : State → Type 0 = λ x. Follows W x rest end in (a.2, subst F (sym a.0.1) f)
+      only : (r : Result ℕ Fault) (m : State) → JoinAnswers W n m (Wire (Allow p q)) r → Says r (answers 0) × CallsFollow W m rest end
+      only (Ok k) m a = let F : State → Type 0 = λ x. CallsFollow W x rest end in (a.2, subst F (sym a.0.1) f)
       only (Err e) m a = absurd (past (is_lawful p q h) a.0)
 
   abbrev edge_length : (a b : ℕ) → ℕ
@@ -155,18 +155,18 @@ module _ (W : Geometry) (n : State) where
     built_can : (Tree : (p q : ℕ) → List Row → Type 0) → Tree p q rows → builds W n (with_tree n rows) Tree (Ok (wire_of rows))
     built_can Tree t = (leb-true _ _ two, (allowed, (seeds, (p, q, rows, al, t, refl, refl))))
 
-    pub straight_told : StraightTree W.between n.spots n.pins p q n.edges rows → ((xs : List Row) → StraightTree W.between n.spots n.pins p q n.edges xs → xs ≡ rows) → Follows W (with_tree n rows) rest end → Follows W n (step (Wire Straight) (answers (wire_of rows)) ∷ rest) end
+    pub straight_told : StraightTree W.between n.spots n.pins p q n.edges rows → ((xs : List Row) → StraightTree W.between n.spots n.pins p q n.edges xs → xs ≡ rows) → CallsFollow W (with_tree n rows) rest end → CallsFollow W n (step (Wire Straight) (answers (wire_of rows)) ∷ rest) end
     straight_told can only =
         let T : (p q : ℕ) → List Row → Type 0 = λ p q. StraightTree W.between n.spots n.pins p q n.edges in
         told (with_tree n rows) (wire_of rows) (Wire Straight) rest end (built_can T can, tt) (λ r m a. built T only r m a.0)
 
-    pub joined_told : JoinedTree W.between W.meeting n.spots n.pins p q n.edges rows → ((xs : List Row) → JoinedTree W.between W.meeting n.spots n.pins p q n.edges xs → xs ≡ rows) → Follows W (with_tree n rows) rest end → Follows W n (step JoinedCall (answers (wire_of rows)) ∷ rest) end
+    pub joined_told : JoinedTree W.between W.meeting n.spots n.pins p q n.edges rows → ((xs : List Row) → JoinedTree W.between W.meeting n.spots n.pins p q n.edges xs → xs ≡ rows) → CallsFollow W (with_tree n rows) rest end → CallsFollow W n (step JoinedCall (answers (wire_of rows)) ∷ rest) end
     joined_told can only =
         let T : (p q : ℕ) → List Row → Type 0 = λ p q. JoinedTree W.between W.meeting n.spots n.pins p q n.edges in
         told (with_tree n rows) (wire_of rows) JoinedCall rest end (built_can T can, tt) (λ r m a. built T only r m a.0)
 
   -- the spanning seed
-  pub span_told : (E : List Edge) (rest : List Step) (end : Ending) → leb 2 n.pins ≡ true → SpanningSeed n.pins (λ u v. W.between (spot_at n.spots u) (spot_at n.spots v)) E → Follows W (with_seed n E) rest end → Follows W n (step (Wire Span) (answers (wire E)) ∷ rest) end
+  pub span_told : (E : List Edge) (rest : List Step) (end : Ending) → leb 2 n.pins ≡ true → SpanningSeed n.pins (λ u v. W.between (spot_at n.spots u) (spot_at n.spots v)) E → CallsFollow W (with_seed n E) rest end → CallsFollow W n (step (Wire Span) (answers (wire E)) ∷ rest) end
   span_told E rest end two spans f = told (with_seed n E) (wire E) (Wire Span) rest end ((leb-true _ _ two, (E, spans, refl, refl)), tt) spanned f
     where
       spanned : (r : Result ℕ Fault) (m : State) → JoinAnswers W n m (Wire Span) r → (r ≡ Ok (wire E)) × (m ≡ with_seed n E)
@@ -177,13 +177,13 @@ module _ (W : Geometry) (n : State) where
       spanned (Err e) m a = absurd (past (leb-true _ _ two) a.0)
 
   -- a pin in a space that is too wide
-  pub wide_told : (z : Spot) (rest : List Step) (end : Ending) → leb W.width LONGEST ≡ false → Follows W n rest end → Follows W n (step (Wire (Pin z)) (refused 1) ∷ rest) end
+  pub wide_told : (z : Spot) (rest : List Step) (end : Ending) → leb W.width LONGEST ≡ false → CallsFollow W n rest end → CallsFollow W n (step (Wire (Pin z)) (refused 1) ∷ rest) end
   wide_told z rest end wide f = (record { answer = Err (Space TooWide); after = n; stands = (inl (over W.width wide, refl), refl) }, only)
     where
-      only : (r : Result ℕ Fault) (m : State) → JoinAnswers W n m (Wire (Pin z)) r → Says r (refused 1) × Follows W m rest end
+      only : (r : Result ℕ Fault) (m : State) → JoinAnswers W n m (Wire (Pin z)) r → Says r (refused 1) × CallsFollow W m rest end
       only (Ok k) m a = absurd (over W.width wide a.0.0)
       only (Err e) m a =
-          let F : State → Type 0 = λ x. Follows W x rest end in
+          let F : State → Type 0 = λ x. CallsFollow W x rest end in
           (⊎_elim (λ (k : (W.width ≤ LONGEST → ⊥) × (number_of e ≡ 1)). k.1) (λ (k : (W.width ≤ LONGEST) × _). absurd (over W.width wide k.0)) a.0, subst F (sym a.1) f)
 
 module _ (W : Geometry) where
@@ -197,7 +197,7 @@ module _ (W : Geometry) where
   with_pins n [] = n
   with_pins n (z ∷ zs) = with_pins (with_pin n z) zs
 
-  pub pins_told : (n : State) (zs : List Spot) (rest : List Step) (end : Ending) → fit_pins n zs ≡ true → Follows W (with_pins n zs) rest end → Follows W n (pins_from n.pins zs ++ rest) end
+  pub pins_told : (n : State) (zs : List Spot) (rest : List Step) (end : Ending) → fit_pins n zs ≡ true → CallsFollow W (with_pins n zs) rest end → CallsFollow W n (pins_from n.pins zs ++ rest) end
   pins_told n [] rest end h f = f
   pins_told n (z ∷ zs) rest end h f =
       let h' = and_parts _ _ h in
@@ -211,7 +211,7 @@ module _ (W : Geometry) where
   with_chain n k [] = n
   with_chain n k (l ∷ ls) = with_chain (with_edge n k (k + 1) l) (k + 1) ls
 
-  pub chain_told : (n : State) (k : ℕ) (ls : List ℕ) (rest : List Step) (end : Ending) → fit_edges n k ls ≡ true → Follows W (with_chain n k ls) rest end → Follows W n (chain_from k ls ++ rest) end
+  pub chain_told : (n : State) (k : ℕ) (ls : List ℕ) (rest : List Step) (end : Ending) → fit_edges n k ls ≡ true → CallsFollow W (with_chain n k ls) rest end → CallsFollow W n (chain_from k ls ++ rest) end
   chain_told n k [] rest end h f = f
   chain_told n k (l ∷ ls) rest end h f =
       let h' = and_parts _ _ h in
@@ -221,6 +221,6 @@ module _ (W : Geometry) where
   abbrev pub laid : List Spot → (p q : ℕ) → List ℕ → State
   laid pins p q ls = with_chain (with_allowance (with_pins fresh pins) p q) 0 ls
 
-  pub laid_told : (pins : List Spot) (p q : ℕ) (ls : List ℕ) (rest : List Step) (end : Ending) → fit_pins fresh pins ≡ true → lawful p q ≡ true → fit_edges (with_allowance (with_pins fresh pins) p q) 0 ls ≡ true → Follows W (laid pins p q ls) rest end → Follows W fresh (seeded pins p q ls rest) end
+  pub laid_told : (pins : List Spot) (p q : ℕ) (ls : List ℕ) (rest : List Step) (end : Ending) → fit_pins fresh pins ≡ true → lawful p q ≡ true → fit_edges (with_allowance (with_pins fresh pins) p q) 0 ls ≡ true → CallsFollow W (laid pins p q ls) rest end → CallsFollow W fresh (seeded pins p q ls rest) end
   laid_told pins p q ls rest end h k e f =
       pins_told fresh pins _ end h (allow_told W (with_pins fresh pins) p q _ end k (chain_told (with_allowance (with_pins fresh pins) p q) 0 ls rest end e f))

@@ -25,7 +25,7 @@ use Rattle.net_laws.specs.Answers.{JoinedTree, StraightTree, breakpoints, marks_
 use Rattle.net_laws.specs.States.{fresh}
 use Rattle.net_laws.specs.declared.call.Call.TheVariants.{Pin, Span, Straight}
 use Rattle.net_laws.specs.declared.call.JoinCall.TheVariants.{Wire, Joined}
-use Rattle.net_cases.specs.Calls.{Follows, answers, pins_from, refused, seed, seeded, step, tree}
+use Rattle.net_cases.specs.Calls.{CallsFollow, answers, pins_from, refused, seed, seeded, step, tree}
 use Rattle.cases.specs.Table.{chain, corner, fork, origin, square, square_seed}
 use Rattle.net_cases.specs.Table.{Holds, corner_rows, fork_joined, fork_rows, on_lift, on_plane, square_broken, square_rows, nets as net_rows}
 use Rattle.net_cases.proofs.Calling.{joined_told, laid, laid_told, lawful, pins_told, span_told, straight_told, wide_told, with_pins}
@@ -50,7 +50,7 @@ corner_only : (xs : List Row) → StraightTree on_plane.between corner 3 0 1 (ch
 unfolding walk
 corner_only = straight_only on_plane.between corner 3 0 1 (chain (far corner) 2) (links (far corner) 0 2) corner_sound (chain_grows (far corner) 2)
 
-corner_straight : Follows on_plane fresh (seeded corner 0 1 (10 ∷ (5 ∷ [])) (step (Wire Straight) (answers 10) ∷ [])) (tree corner_rows)
+corner_straight : CallsFollow on_plane fresh (seeded corner 0 1 (10 ∷ (5 ∷ [])) (step (Wire Straight) (answers 10) ∷ [])) (tree corner_rows)
 corner_straight =
     laid_told on_plane corner 0 1 (10 ∷ (5 ∷ [])) (step (Wire Straight) (answers 10) ∷ []) (tree corner_rows) refl refl refl
     (straight_told on_plane (laid on_plane corner 0 1 (10 ∷ (5 ∷ []))) 0 1 corner_rows [] (tree corner_rows) refl refl refl
@@ -60,21 +60,21 @@ fork_only : (xs : List Row) → StraightTree on_plane.between fork 4 0 1 (chain 
 unfolding walk
 fork_only = straight_only on_plane.between fork 4 0 1 (chain (far fork) 3) (links (far fork) 0 3) fork_sound (chain_grows (far fork) 3)
 
-fork_straight : Follows on_plane fresh (seeded fork 0 1 (6 ∷ (13 ∷ (3 ∷ []))) (step (Wire Straight) (answers 19) ∷ [])) (tree fork_rows)
+fork_straight : CallsFollow on_plane fresh (seeded fork 0 1 (6 ∷ (13 ∷ (3 ∷ []))) (step (Wire Straight) (answers 19) ∷ [])) (tree fork_rows)
 fork_straight =
     laid_told on_plane fork 0 1 (6 ∷ (13 ∷ (3 ∷ []))) (step (Wire Straight) (answers 19) ∷ []) (tree fork_rows) refl refl refl
     (straight_told on_plane (laid on_plane fork 0 1 (6 ∷ (13 ∷ (3 ∷ [])))) 0 1 fork_rows [] (tree fork_rows) refl refl refl
     (straight_there on_plane.between fork 4 0 1 (chain (far fork) 3) fork_rows fork_sound refl fork_only) fork_only refl)
 
-square_straight : (p q : ℕ) (rows : List Row) → lawful p q ≡ true → wire_of rows ≡ 18 → straight (net_rules on_plane.between square 4 p q) (walk (net_rules on_plane.between square 4 p q) 0 (links (far square) 0 3) start) (spot_at square) 4 ≡ rows → Follows on_plane fresh (seeded square p q (6 ∷ (6 ∷ (6 ∷ []))) (step (Wire Straight) (answers 18) ∷ [])) (tree rows)
+square_straight : (p q : ℕ) (rows : List Row) → lawful p q ≡ true → wire_of rows ≡ 18 → straight (net_rules on_plane.between square 4 p q) (walk (net_rules on_plane.between square 4 p q) 0 (links (far square) 0 3) start) (spot_at square) 4 ≡ rows → CallsFollow on_plane fresh (seeded square p q (6 ∷ (6 ∷ (6 ∷ []))) (step (Wire Straight) (answers 18) ∷ [])) (tree rows)
 square_straight p q rows law w is =
     let net = laid on_plane square p q (6 ∷ (6 ∷ (6 ∷ []))) in
     let only : (xs : List Row) → StraightTree on_plane.between square 4 p q (chain (far square) 3) xs → xs ≡ rows = λ xs t. straight_only on_plane.between square 4 p q (chain (far square) 3) (links (far square) 0 3) square_sound (chain_grows (far square) 3) xs t ∙ is in
-    let F : ℕ → Type 0 = λ k. Follows on_plane net (step (Wire Straight) (answers k) ∷ []) (tree rows) in
+    let F : ℕ → Type 0 = λ k. CallsFollow on_plane net (step (Wire Straight) (answers k) ∷ []) (tree rows) in
     laid_told on_plane square p q (6 ∷ (6 ∷ (6 ∷ []))) (step (Wire Straight) (answers 18) ∷ []) (tree rows) refl law refl
     (subst F w (straight_told on_plane net p q rows [] (tree rows) refl refl refl (straight_there on_plane.between square 4 p q (chain (far square) 3) rows square_sound refl only) only refl))
 
-square_span : Follows on_plane fresh (pins_from 0 square ++ step (Wire Span) (answers 18) ∷ []) (seed square_seed)
+square_span : CallsFollow on_plane fresh (pins_from 0 square ++ step (Wire Span) (answers 18) ∷ []) (seed square_seed)
 square_span =
     pins_told on_plane fresh square (step (Wire Span) (answers 18) ∷ []) (seed square_seed) refl
     (span_told on_plane (with_pins on_plane fresh square) square_seed [] (seed square_seed) refl spans (refl, refl))
@@ -161,17 +161,17 @@ joined_there =
 joined_only : (xs : List Row) → JoinedTree d m fork 4 0 1 (chain (far fork) 3) xs → xs ≡ fork_joined
 joined_only xs t = fork_joins (fork_only t.unjoined t.straight) (fork_broken t.straight.planted) t.joins
 
-fork_together : Follows on_plane fresh (seeded fork 0 1 (6 ∷ (13 ∷ (3 ∷ []))) (step Joined (answers 14) ∷ [])) (tree fork_joined)
+fork_together : CallsFollow on_plane fresh (seeded fork 0 1 (6 ∷ (13 ∷ (3 ∷ []))) (step Joined (answers 14) ∷ [])) (tree fork_joined)
 fork_together =
     laid_told on_plane fork 0 1 (6 ∷ (13 ∷ (3 ∷ []))) (step Joined (answers 14) ∷ []) (tree fork_joined) refl refl refl
     (joined_told on_plane (laid on_plane fork 0 1 (6 ∷ (13 ∷ (3 ∷ [])))) 0 1 fork_joined [] (tree fork_joined) refl refl refl joined_there joined_only refl)
 
 -- ---- a lift
 
-lift_takes : Follows (on_lift 6400000) fresh (step (Wire (Pin origin)) (answers 0) ∷ []) (seed [])
+lift_takes : CallsFollow (on_lift 6400000) fresh (step (Wire (Pin origin)) (answers 0) ∷ []) (seed [])
 lift_takes = pins_told (on_lift 6400000) fresh (origin ∷ []) [] (seed []) refl (refl, refl)
 
-lift_refuses : Follows (on_lift 6400001) fresh (step (Wire (Pin origin)) (refused 1) ∷ []) (seed [])
+lift_refuses : CallsFollow (on_lift 6400001) fresh (step (Wire (Pin origin)) (refused 1) ∷ []) (seed [])
 lift_refuses = wide_told (on_lift 6400001) fresh origin [] (seed []) refl (refl, refl)
 
 pub nets : AllByRecursion Holds net_rows

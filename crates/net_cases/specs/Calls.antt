@@ -39,17 +39,17 @@ Ends n (seed E) = (n.edges ≡ E) × (n.tree ≡ None)
 Ends n (tree rows) = n.tree ≡ Some rows
 
 -- The contract of the call leaves the net n an answer.
-pub record Answered (W : Geometry) (n : State) (c : JoinCall) : Type 0 where
+pub record HasAnswer (W : Geometry) (n : State) (c : JoinCall) : Type 0 where
   pub answer : Result ℕ Fault
   pub after : State
   pub stands : JoinAnswers W n after c answer
 
 -- The net n is asked by these calls in this order: to the first it has an answer, and whatever it answers by the contract of the call is the
 -- reply given, and so on from the net that it becomes.
-abbrev pub Follows : Geometry → State → List Step → Ending → Type 0
-Follows W n [] end = Ends n end
-Follows W n (s ∷ steps) end =
-    Answered W n s.call × ((r : Result ℕ Fault) (m : State) → JoinAnswers W n m s.call r → Says r s.reply × Follows W m steps end)
+abbrev pub CallsFollow : Geometry → State → List Step → Ending → Type 0
+CallsFollow W n [] end = Ends n end
+CallsFollow W n (s ∷ steps) end =
+    HasAnswer W n s.call × ((r : Result ℕ Fault) (m : State) → JoinAnswers W n m s.call r → Says r s.reply × CallsFollow W m steps end)
 
 abbrev pub step : JoinCall → Reply → Step
 step c r = record { call = c; reply = r }

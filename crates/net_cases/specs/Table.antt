@@ -11,7 +11,7 @@ use Rattle.net_laws.specs.Spaces.{joining, wiring}
 use Rattle.net_laws.specs.declared.call.Call.TheVariants.{Pin, Span, Straight}
 use Rattle.net_laws.specs.declared.call.JoinCall.TheVariants.{Wire, Joined}
 use Rattle.cases.specs.Table.{Fact as Below, Holds as HoldsBelow, table as below, at, corner, fork, lift_ghosts, origin, over_plane, plane, square, square_seed}
-use Rattle.net_cases.specs.Calls.{Ending, Follows, Step, answers, pins_from, refused, seed, seeded, step, tree}
+use Rattle.net_cases.specs.Calls.{Ending, CallsFollow, Step, answers, pins_from, refused, seed, seeded, step, tree}
 
 -- What plane, and a lift of that price over plane, mean to a net.
 abbrev pub on_plane : Geometry
@@ -29,7 +29,7 @@ pub data Fact : Type 0 where
 
 abbrev pub Holds : Fact → Type 0
 Holds (layer_answers fact) = HoldsBelow fact
-Holds (net_answers W steps left) = Follows W fresh steps left
+Holds (net_answers W steps left) = CallsFollow W fresh steps left
 
 abbrev pub row : (parent : ℕ) → Spot → (length : ℕ) → Row
 row u z l = record { parent = u; spot = z; length = l }

@@ -20,21 +20,21 @@ use Rattle.space.specs.Totals.{edge_length, capped_distance}
 use Rattle.tree_laws.proofs.HookMoves.{uncut}
 use Rattle.tree_laws.specs.Trees.{path_length}
 use Rattle.tree_laws.specs.declared.Row.{Row}
-use Rattle.net_laws.specs.Sinks.{Sink, SinkAt}
+use Rattle.net_laws.specs.Sinks.{FiguredSink, FiguredSinkAt}
 
 -- ---- the worst is the first of the sinks
 
 module _ (d : Spot → Spot → ℕ) (n : State) (rows : List Row) where
   -- the first that a search over the pins finds is the first of the sinks
-  pub first_sink : {Gives : ℕ → Option Worst → Type 0} {xs : List Worst} (pins : ℕ) (o : Option Worst) → pins ≡ n.pins → Found Gives pins xs → FirstOf worst_before xs o → ((k : ℕ) (r : Option Worst) → k < pins → Gives k r → BestOf worst_before (SinkAt d n rows k) r) → BestOf worst_before (Sink d n rows) o
+  pub first_sink : {Gives : ℕ → Option Worst → Type 0} {xs : List Worst} (pins : ℕ) (o : Option Worst) → pins ≡ n.pins → Found Gives pins xs → FirstOf worst_before xs o → ((k : ℕ) (r : Option Worst) → k < pins → Gives k r → BestOf worst_before (FiguredSinkAt d n rows k) r) → BestOf worst_before (FiguredSink d n rows) o
   first_sink pins o e found first best =
-      found_best (SinkAt d n rows) (Sink d n rows) worst_order o found first (λ k r h q. q.0) (λ r q. (r.pin, omega (arith, q.pin, e), (q, refl))) best
+      found_best (FiguredSinkAt d n rows) (FiguredSink d n rows) worst_order o found first (λ k r h q. q.0) (λ r q. (r.pin, omega (arith, q.pin, e), (q, refl))) best
 
-  pub some_sink : 2 ≤ n.pins → (o : Option Worst) → BestOf worst_before (Sink d n rows) o → IsSome o
+  pub some_sink : 2 ≤ n.pins → (o : Option Worst) → BestOf worst_before (FiguredSink d n rows) o → IsSome o
   some_sink h None b = absurd (b (record { pin = 1; figure = figure_of d n rows 1 }) (record { later = omega arith; pin = omega arith; figure = refl }))
   some_sink h (Some r) b = refl
 
-  pub worst_sink : (r : Worst) → BestOf worst_before (Sink d n rows) (Some r) → WorstOf d n rows r
+  pub worst_sink : (r : Worst) → BestOf worst_before (FiguredSink d n rows) (Some r) → WorstOf d n rows r
   worst_sink r b = record {
     sink = (b.0.later, b.0.pin);
     figure = b.0.figure;

@@ -7,11 +7,11 @@ use Rattle.space.specs.declared.spot.Spot.{Spot}
 use Rattle.tree_laws.specs.declared.Row.{Row}
 
 -- A sink with its figure.
-pub record Sink (d : Spot → Spot → ℕ) (n : State) (rows : List Row) (r : Worst) : Type 0 where
+pub record FiguredSink (d : Spot → Spot → ℕ) (n : State) (rows : List Row) (r : Worst) : Type 0 where
   pub later : 0 < r.pin
   pub pin : r.pin < n.pins
   pub figure : r.figure ≡ figure_of d n rows r.pin
 
 -- The pin k as a sink.
-abbrev pub SinkAt : (Spot → Spot → ℕ) → State → List Row → (k : ℕ) → Worst → Type 0
-SinkAt d n rows k r = Sink d n rows r × (r.pin ≡ k)
+abbrev pub FiguredSinkAt : (Spot → Spot → ℕ) → State → List Row → (k : ℕ) → Worst → Type 0
+FiguredSinkAt d n rows k r = FiguredSink d n rows r × (r.pin ≡ k)

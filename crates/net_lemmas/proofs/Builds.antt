@@ -3,7 +3,7 @@ use Rattle.std.proofs.Common.{◌≡◌, ℕ, zero, suc, ◌+◌, ◌<◌, ◌�
 use Rattle.std.proofs.lemmas.List.{append-nil, get_or_append_left, get_or_push, length_push}
 use Rattle.std.proofs.lemmas.Bool.{cases_Bool, cases_eq, cond-false, cond-true}
 use Rattle.std.specs.Option.{unwrap_or}
-use Rattle.build_laws.specs.Joining.{Joins, far_of, meet_of, meet_row}
+use Rattle.build_laws.specs.Joining.{Joins, far_of, driver_meet, meet_row}
 use Rattle.build_laws.specs.Joining.Joins.{done, join}
 use Rattle.build_laws.specs.Straight.{straight}
 use Rattle.build_laws.proofs.Building.{straight_length, straight_row_lem}

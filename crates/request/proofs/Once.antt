@@ -8,7 +8,7 @@ use Rattle.space.specs.declared.spot.Spot.{Spot}
 use Rattle.net_laws.specs.declared.call.Call.TheVariants.{Pin, Allow, Steiner, Edge, Unseed, Span, Straight, Hook}
 use Rattle.net_laws.specs.declared.call.JoinCall.TheVariants.{Wire, Joined, Share}
 use Rattle.request.specs.Lines.{fields_of}
-use Rattle.request.specs.Requests.{FirstBad, Good, InGrammar, Ranged, Reads, ReadsFields, ReadsOnly, Sort, behind, count_fits, head_of, is_letter, sorts_of, spelled, word_of}
+use Rattle.request.specs.Requests.{FirstBad, Good, InGrammar, Ranged, Reads, ReadsFields, ReadsOnly, Sort, behind, count_fits, first_field, is_letter, sorts_of, spelled, word_of}
 use Rattle.request.specs.Requests.Sort.{word, price, coordinate, small}
 use Rattle.request.specs.declared.requests.Request.{Request}
 use Rattle.request.specs.declared.requests.Request.TheVariants.{Space, Change, Rows, Path, Worst}
@@ -304,24 +304,24 @@ one_bad (s ∷ ss) (t ∷ ts) i f g (inr b) (inl c) = absurd (c.1 b.0)
 one_bad (s ∷ ss) (t ∷ ts) i f g (inr b) (inr c) = one_bad ss ts (suc i) f g b.1 c.1
 
 -- a request's fields are not refused
-not_letter : (fs : List (List ℕ)) (a : Request) → fs ≡ spelled a → is_letter (head_of fs) ≡ false → ⊥
+not_letter : (fs : List (List ℕ)) (a : Request) → fs ≡ spelled a → is_letter (first_field fs) ≡ false → ⊥
 not_letter fs a e h =
-    let P : List (List ℕ) → Type 0 = λ x. is_letter (head_of x) ≡ false in
+    let P : List (List ℕ) → Type 0 = λ x. is_letter (first_field x) ≡ false in
     let no = subst P (e ∙ texts a) h in
     let yes = lettered a in
     (cc)
 
-not_fields : (fs : List (List ℕ)) (a : Request) → fs ≡ spelled a → count_fits (head_of fs) (length fs) ≡ false → ⊥
+not_fields : (fs : List (List ℕ)) (a : Request) → fs ≡ spelled a → count_fits (first_field fs) (length fs) ≡ false → ⊥
 not_fields fs a e h =
-    let P : List (List ℕ) → Type 0 = λ x. count_fits (head_of x) (length (spelled a)) ≡ false in
-    let Q : List (List ℕ) → Type 0 = λ x. count_fits (head_of fs) (length x) ≡ false in
+    let P : List (List ℕ) → Type 0 = λ x. count_fits (first_field x) (length (spelled a)) ≡ false in
+    let Q : List (List ℕ) → Type 0 = λ x. count_fits (first_field fs) (length x) ≡ false in
     let no = subst P (e ∙ texts a) (subst Q e h) in
     let yes = counts a in
     (cc)
 
-not_bad : (fs : List (List ℕ)) (a : Request) (f : ℕ) → Ranged a → fs ≡ spelled a → FirstBad (sorts_of (head_of fs)) (behind fs) 2 f → ⊥
+not_bad : (fs : List (List ℕ)) (a : Request) (f : ℕ) → Ranged a → fs ≡ spelled a → FirstBad (sorts_of (first_field fs)) (behind fs) 2 f → ⊥
 not_bad fs a f r e h =
-    let P : List (List ℕ) → Type 0 = λ x. FirstBad (sorts_of (head_of x)) (behind x) 2 f in
+    let P : List (List ℕ) → Type 0 = λ x. FirstBad (sorts_of (first_field x)) (behind x) 2 f in
     none_bad (sorts_of (letter_of a ∷ [])) (operands_of a) 2 f (fits a r) (subst P (e ∙ texts a) h)
 
 once : (fs : List (List ℕ)) (r s : Result Request TextFault) → ReadsFields fs r → ReadsFields fs s → r ≡ s
@@ -334,7 +334,7 @@ once fs (Err WrongFields) (Ok b) h k = absurd (not_fields fs b k.1 h.1)
 once fs (Err (BadField f)) (Ok b) h k = absurd (not_bad fs b f k.0 k.1 h.2)
 once fs (Err NoLetter) (Err NoLetter) h k = refl
 once fs (Err WrongFields) (Err WrongFields) h k = refl
-once fs (Err (BadField f)) (Err (BadField g)) h k = ap (λ x. Err (BadField x)) (one_bad (sorts_of (head_of fs)) (behind fs) 2 f g h.2 k.2)
+once fs (Err (BadField f)) (Err (BadField g)) h k = ap (λ x. Err (BadField x)) (one_bad (sorts_of (first_field fs)) (behind fs) 2 f g h.2 k.2)
 once fs (Err NoLetter) (Err WrongFields) h k = let a = h in let b = k.0 in absurd (cc)
 once fs (Err NoLetter) (Err (BadField g)) h k = let a = h in let b = k.0 in absurd (cc)
 once fs (Err WrongFields) (Err NoLetter) h k = let a = h.0 in let b = k in absurd (cc)

@@ -92,9 +92,9 @@ Good price text = (n : ℕ) × (n < 2 ^ 32) × (text ≡ decimal n)
 Good coordinate text = (z : ℤ) × FitsSigned w32 z × (text ≡ signed_decimal z)
 Good small text = (n : ℕ) × (n < 2 ^ 16) × (text ≡ decimal n)
 
-abbrev pub head_of : List (List ℕ) → List ℕ
-head_of [] = []
-head_of (f ∷ fs) = f
+abbrev pub first_field : List (List ℕ) → List ℕ
+first_field [] = []
+first_field (f ∷ fs) = f
 
 abbrev pub behind : List (List ℕ) → List (List ℕ)
 behind [] = []
@@ -130,10 +130,10 @@ FirstBad (s ∷ ss) (t ∷ ts) i f = ((f ≡ i) × (Good s t → ⊥)) ⊎ (Good
 -- What the fields ask, or their refusal.
 abbrev pub ReadsFields : List (List ℕ) → Result Request TextFault → Type 0
 ReadsFields fs (Ok r) = Ranged r × (fs ≡ spelled r)
-ReadsFields fs (Err NoLetter) = is_letter (head_of fs) ≡ false
-ReadsFields fs (Err WrongFields) = (is_letter (head_of fs) ≡ true) × (count_fits (head_of fs) (length fs) ≡ false)
+ReadsFields fs (Err NoLetter) = is_letter (first_field fs) ≡ false
+ReadsFields fs (Err WrongFields) = (is_letter (first_field fs) ≡ true) × (count_fits (first_field fs) (length fs) ≡ false)
 ReadsFields fs (Err (BadField f)) =
-    (is_letter (head_of fs) ≡ true) × (count_fits (head_of fs) (length fs) ≡ true) × FirstBad (sorts_of (head_of fs)) (behind fs) 2 f
+    (is_letter (first_field fs) ≡ true) × (count_fits (first_field fs) (length fs) ≡ true) × FirstBad (sorts_of (first_field fs)) (behind fs) 2 f
 ReadsFields fs (Err LongLine) = ⊥
 ReadsFields fs (Err OutOfPlace) = ⊥
 ReadsFields fs (Err NoCall) = ⊥

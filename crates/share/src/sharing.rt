@@ -1,6 +1,6 @@
 ghost use Rattle.order.specs.Bests.{BestOf};
 ghost use Rattle.tree_laws.specs.Shares.{share_before};
-ghost use Rattle.share.specs.Searches.{MoveAt, MoveIn};
+ghost use Rattle.share.specs.Searches.{ShareMoveAt, ShareMoveIn};
 ghost use Rattle.share.specs.Shares.{Shared};
 
 use crate::meeting::insert_meet;
@@ -31,7 +31,7 @@ struct ShareSearch<'a, S: Joining> {
 impl<'a, S: Joining> ShareSearch<'a, S> {
     /// The move of the rows `a` and `b`, where it is one.
     fn weigh(&self, a: usize, b: usize) -> Option<Share>
-        ensures { BestOf share_before (MoveAt S.Space S.Joining.own self.now a b) result }
+        ensures { BestOf share_before (ShareMoveAt S.Space S.Joining.own self.now a b) result }
     {
         if a == 0 {
             return None;
@@ -56,7 +56,7 @@ impl<'a, S: Joining> ShareSearch<'a, S> {
 
     /// The first of all moves.
     fn best(&self) -> Option<Share>
-        ensures { BestOf share_before (MoveIn S.Space S.Joining.own self.now) result }
+        ensures { BestOf share_before (ShareMoveIn S.Space S.Joining.own self.now) result }
     {
         let rows = self.table.len();
         first_of_pairs(rows, rows, |a, b| self.weigh(a, b))

@@ -16,7 +16,7 @@ use Rattle.span_laws.specs.LinkOrder.{link_order}
 use Rattle.span_laws.specs.Links.{link_before}
 use Rattle.span_laws.specs.Spanning.{FirstPair, Pair, link}
 use Rattle.span_laws.specs.declared.link.Link.{Link}
-use Rattle.span.specs.Growth.{Alone, Firsts, better, elsewhere, fan, offered}
+use Rattle.span.specs.Growth.{Alone, FirstLinks, better, elsewhere, fan, offered_link}
 
 -- ---- the first of two
 
@@ -49,7 +49,7 @@ old_after x y = better_cases (λ z. link_before x z ≡ false) x y (link_order.o
 new_after : (x y : Link) → link_before y (better x y) ≡ false
 new_after x y = better_cases (λ z. link_before y z ≡ false) x y (λ _. never_itself link_order y) (λ e. e)
 
-better_pin : (x : Link) (d : ℕ → ℕ → ℕ) (u : ℕ) → (offered d u x).v ≡ x.v
+better_pin : (x : Link) (d : ℕ → ℕ → ℕ) (u : ℕ) → (offered_link d u x).v ≡ x.v
 better_pin x d u = better_cases (λ z. z.v ≡ x.v) x (link d u x.v) (λ _. refl) (λ _. refl)
 
 -- ---- lists of links
@@ -93,7 +93,7 @@ map_among f (x ∷ F) y (there m) = there (map_among f F y m)
 pub alone_none : Alone []
 alone_none v x out j = sym (joined_none j)
 
-module _ (n : ℕ) (d : ℕ → ℕ → ℕ) (E : List Edge) (F : List Link) (fs : Firsts n d E F) (w : Link) (f : First link_before F w) where
+module _ (n : ℕ) (d : ℕ → ℕ → ℕ) (E : List Edge) (F : List Link) (fs : FirstLinks n d E F) (w : Link) (f : First link_before F w) where
   abbrev new : Edge
   new = record { a = w.u; b = w.v; length = w.length }
 
@@ -166,11 +166,11 @@ module _ (n : ℕ) (d : ℕ → ℕ → ℕ) (E : List Edge) (F : List Link) (fs
       pub old : Link
       pub stood : Among old F
       pub other : old.v ≡ w.v → ⊥
-      pub is : y ≡ offered d w.v old
+      pub is : y ≡ offered_link d w.v old
 
-    stays : (y : Link) → Among y (map (offered d w.v) (filter (elsewhere w.v) F)) → Stays y
+    stays : (y : Link) → Among y (map (offered_link d w.v) (filter (elsewhere w.v) F)) → Stays y
     stays y m =
-        let r = among_map (offered d w.v) (filter (elsewhere w.v) F) y m in
+        let r = among_map (offered_link d w.v) (filter (elsewhere w.v) F) y m in
         let k = among_kept (elsewhere w.v) F r.0 r.1 in
         record { old = r.0; stood = k.0; other = eqb-false _ _ (not-true _ k.1); is = r.2 }
 
@@ -186,7 +186,7 @@ module _ (n : ℕ) (d : ℕ → ℕ → ℕ) (E : List Edge) (F : List Link) (fs
     stays_first : (y : Link) → Stays y → (u : ℕ) → u < n → Joined (E ++ new ∷ []) 0 u → link_before (link d u y.v) y ≡ false
     stays_first y s u h j =
         let x = s.old in
-        let z = offered d w.v x in
+        let z = offered_link d w.v x in
         let at-z : link_before (link d u x.v) z ≡ false =
         ⊎_elim
         (λ (i : Joined E 0 u). not_before link_order (link d u x.v) x z (fs.firsts x s.stood u h i) (old_after x (link d w.v x.v)))
@@ -197,7 +197,7 @@ module _ (n : ℕ) (d : ℕ → ℕ → ℕ) (E : List Edge) (F : List Link) (fs
         let Q : ℕ → Type 0 = λ k. link_before (link d u k) z ≡ false in
         subst P (sym s.is) (subst Q (sym (better_pin x d w.v)) at-z)
 
-    pub firsts_more : Firsts n d (E ++ new ∷ []) (map (offered d w.v) (filter (elsewhere w.v) F))
+    pub firsts_more : FirstLinks n d (E ++ new ∷ []) (map (offered_link d w.v) (filter (elsewhere w.v) F))
     firsts_more = record {
       pairs = λ y m. stays_pair y (stays y m);
       firsts = λ y m. stays_first y (stays y m);
@@ -207,7 +207,7 @@ module _ (n : ℕ) (d : ℕ → ℕ → ℕ) (E : List Edge) (F : List Link) (fs
           let Q : ℕ → Type 0 = λ z. Joined (E ++ new ∷ []) 0 z in
           let ne : x.v ≡ w.v → ⊥ = λ e. out (subst Q (sym e ∙ found.2) new_inside) in
           let kept = kept_among (elsewhere w.v) F x found.1 (not_from_false _ (ne_eqb _ _ ne)) in
-          (offered d w.v x, map_among (offered d w.v) _ x kept, better_pin x d w.v ∙ found.2);
+          (offered_link d w.v x, map_among (offered_link d w.v) _ x kept, better_pin x d w.v ∙ found.2);
     }
 
 -- ---- the start
@@ -232,7 +232,7 @@ fan_among d (suc k) v h l =
     (λ (ne : v ≡ suc k → ⊥). among_left (fan d k) (link d 0 (suc k) ∷ []) (fan_among d k v h (omega arith)))
     (cases_eq v (suc k))
 
-pub firsts_start : (n : ℕ) (d : ℕ → ℕ → ℕ) (k : ℕ) → k + 1 ≡ n → Firsts n d [] (fan d k)
+pub firsts_start : (n : ℕ) (d : ℕ → ℕ → ℕ) (k : ℕ) → k + 1 ≡ n → FirstLinks n d [] (fan d k)
 firsts_start n d k e = record {
   pairs = λ x m.
       let r = among_fan d k x m in
@@ -254,7 +254,7 @@ firsts_start n d k e = record {
 -- ---- the end
 
 -- no firsts left: no pin is outside, and the edges are one fewer than the pins
-pub firsts_none : (n : ℕ) (d : ℕ → ℕ → ℕ) (E : List Edge) → Accepted n E → 0 < n → Firsts n d E [] → length E + 1 ≡ n
+pub firsts_none : (n : ℕ) (d : ℕ → ℕ → ℕ) (E : List Edge) → Accepted n E → 0 < n → FirstLinks n d E [] → length E + 1 ≡ n
 firsts_none n d E a h fs =
     one_part a h
     (λ v k.

@@ -23,7 +23,7 @@ use Rattle.span.specs.Grown.{Growing, Spanned}
 use Rattle.space.specs.Spots.{spot_of}
 use Rattle.span.specs.Lengths.{Pinned, pin_distance, lengths}
 use Rattle.span_laws.specs.Spanning.{FirstPair, Steps}
-use Rattle.span.specs.Growth.{Alone, Firsts, elsewhere, fan, offered}
+use Rattle.span.specs.Growth.{Alone, FirstLinks, elsewhere, fan, offered_link}
 use Rattle.span.proofs.Firsts.{alone_more, alone_none, first_pair, firsts_more, firsts_none, firsts_start}
 use Rattle.span_laws.proofs.Steps.{spanning, spanning_agrees, spanning_only, steps_more, steps_none}
 
@@ -40,14 +40,14 @@ lengths_fair G s pins u v = (omega arith, omega arith)
 
 pub start_grows : (n : ℕ) (d : ℕ → ℕ → ℕ) (t : Seed) (k : ℕ) → k + 1 ≡ n → t.nodes ≡ n → t.edges ≡ [] → Growing n d t (fan d k)
 start_grows n d t k e nodes none =
-    let P : List Edge → Type 0 = λ E. Steps n d E × Firsts n d E (fan d k) × Alone E in
+    let P : List Edge → Type 0 = λ E. Steps n d E × FirstLinks n d E (fan d k) × Alone E in
     let h : P t.edges = subst P (sym none) (steps_none n d, firsts_start n d k e, alone_none) in
     record { nodes = nodes; steps = h.0; firsts = h.1; alone = h.2 }
 
 -- no firsts left: the edges are one fewer than the pins already
 pub step_none : (n : ℕ) (d : ℕ → ℕ → ℕ) (t : Seed) (F : List Link) → F ≡ [] → Growing n d t F → length t.edges + 1 < n → ⊥
 step_none n d t F e g h =
-    let P : List Link → Type 0 = λ L. Firsts n d t.edges L in
+    let P : List Link → Type 0 = λ L. FirstLinks n d t.edges L in
     omega (arith, firsts_none n d t.edges (seed_accepted n t g.nodes) (omega arith) (subst P e g.firsts))
 
 -- one step: the first of the firsts is taken as an edge
@@ -66,12 +66,12 @@ module _ (n : ℕ) (d : ℕ → ℕ → ℕ) (fair : Fair d) (t u : Seed) (F : L
   pub step_not_refused : (e : SeedFault) → r ≡ Err e → ⊥
   step_not_refused e h = both_ways false refl (sym (ap is_ok h) ∙ taken.0)
 
-  pub step_grows : (L : List Link) → L ≡ map (offered d w.v) (filter (elsewhere w.v) F) → Growing n d u L × (length u.edges ≡ length t.edges + 1)
+  pub step_grows : (L : List Link) → L ≡ map (offered_link d w.v) (filter (elsewhere w.v) F) → Growing n d u L × (length u.edges ≡ length t.edges + 1)
   step_grows L e =
       let E = t.edges in
       let x : Edge = edge w.u w.v w.length in
-      let P : List Edge → Type 0 = λ D. Steps n d D × Firsts n d D L × Alone D in
-      let Q : List Link → Type 0 = λ M. Firsts n d (E ++ x ∷ []) M in
+      let P : List Edge → Type 0 = λ D. Steps n d D × FirstLinks n d D L × Alone D in
+      let Q : List Link → Type 0 = λ M. FirstLinks n d (E ++ x ∷ []) M in
       let more : P (E ++ x ∷ []) =
       (steps_more n d E x g.steps found, subst Q (sym e) (firsts_more n d E F g.firsts w f g.alone), alone_more n d E F g.firsts w f g.alone)
       in

@@ -12,7 +12,7 @@ use Rattle.space.specs.declared.Space.{Ghosts}
 use Rattle.space.specs.declared.spot.Spot.{Spot}
 use Rattle.span.specs.Lengths.{Pinned, pin_distance, lengths}
 use Rattle.span_laws.specs.Spanning.{SpanningSeed, Steps}
-use Rattle.span.specs.Growth.{Alone, Firsts}
+use Rattle.span.specs.Growth.{Alone, FirstLinks}
 
 -- The seed t is the spanning seed of the pins, and w its wire. The lengths are the space's distances wherever the pins are such as
 -- a net can have.
@@ -38,5 +38,5 @@ Grown G s pins t₀ (Err fault.Long) t = ⊥
 pub record Growing (n : ℕ) (d : ℕ → ℕ → ℕ) (t : Seed) (F : List Link) : Type 0 where
   pub nodes : t.nodes ≡ n
   pub steps : Steps n d t.edges
-  pub firsts : Firsts n d t.edges F
+  pub firsts : FirstLinks n d t.edges F
   pub alone : Alone t.edges

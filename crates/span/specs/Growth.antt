@@ -16,8 +16,8 @@ abbrev pub better : Link → Link → Link
 better old new = cond (link_before new old) new old
 
 -- The outer pin's first link, where u is one more pin inside.
-abbrev pub offered : (ℕ → ℕ → ℕ) → ℕ → Link → Link
-offered d u x = better x (link d u x.v)
+abbrev pub offered_link : (ℕ → ℕ → ℕ) → ℕ → Link → Link
+offered_link d u x = better x (link d u x.v)
 
 -- The links from pin 0 to the pins 1 to k.
 abbrev pub fan : (ℕ → ℕ → ℕ) → (k : ℕ) → List Link
@@ -29,7 +29,7 @@ abbrev pub Alone : List Edge → Type 0
 Alone E = (v x : ℕ) → (Joined E 0 v → ⊥) → Joined E v x → x ≡ v
 
 -- The first link of each outer pin stands in F.
-pub record Firsts (n : ℕ) (d : ℕ → ℕ → ℕ) (E : List Edge) (F : List Link) : Type 0 where
+pub record FirstLinks (n : ℕ) (d : ℕ → ℕ → ℕ) (E : List Edge) (F : List Link) : Type 0 where
   pub pairs : (x : Link) → Among x F → Pair n d E x
   pub firsts : (x : Link) → Among x F → (u : ℕ) → u < n → Joined E 0 u → link_before (link d u x.v) x ≡ false
   pub all : (v : ℕ) → v < n → (Joined E 0 v → ⊥) → (x : Link) × Among x F × (x.v ≡ v)

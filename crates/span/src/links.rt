@@ -4,7 +4,7 @@ ghost use Rattle.seed.specs.declared.store.TheConstants.{NODES};
 ghost use Rattle.order.specs.Firsts.{FirstOf};
 ghost use Rattle.span_laws.specs.Links.{link_before};
 ghost use Rattle.span.specs.Measured.{lengths_of};
-ghost use Rattle.span.specs.Growth.{better, elsewhere, fan, offered};
+ghost use Rattle.span.specs.Growth.{better, elsewhere, fan, offered_link};
 
 use crate::pins::Pins;
 use search::first;
@@ -62,7 +62,7 @@ impl Links {
 
     /// Compares the first link of each pin outside with the one from `u`, the newest pin inside.
     pub(crate) fn offer<S: Space>(&mut self, pins: &Pins<S>, u: usize)
-        ensures { self.new.outside.items ≡ map (offered (lengths_of pins.now) u) self.old.outside.items }
+        ensures { self.new.outside.items ≡ map (offered_link (lengths_of pins.now) u) self.old.outside.items }
     {
         for old in self.outside.iter_mut() {
             *old = nearer(*old, pins.link(u, old.v));

@@ -7,9 +7,9 @@ use Rattle.tree_laws.specs.Hooks.{HookMove}
 use Rattle.tree.specs.declared.refining.HookSearch.{HookSearch}
 
 -- A move of the tree that is searched.
-abbrev pub MoveIn : {X : Type 0} → (G : Ghosts X) → HookSearch X G → Hook → Type 0
-MoveIn G q = HookMove q.table.now.rows (capped_row_distance G q.space.now q.table.now.rows)
+abbrev pub HookMoveIn : {X : Type 0} → (G : Ghosts X) → HookSearch X G → Hook → Type 0
+HookMoveIn G q = HookMove q.table.now.rows (capped_row_distance G q.space.now q.table.now.rows)
 
 -- A move of v on u.
-abbrev pub MoveAt : {X : Type 0} → (G : Ghosts X) → HookSearch X G → (v u : ℕ) → Hook → Type 0
-MoveAt G q v u m = MoveIn G q m × (m.v ≡ v) × (m.u ≡ u)
+abbrev pub HookMoveAt : {X : Type 0} → (G : Ghosts X) → HookSearch X G → (v u : ℕ) → Hook → Type 0
+HookMoveAt G q v u m = HookMoveIn G q m × (m.v ≡ v) × (m.u ≡ u)

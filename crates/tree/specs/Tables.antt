@@ -35,19 +35,19 @@ RowAdded s u z l None t = (Fits s u l → ⊥) × (t ≡ s)
 RowAdded s u z l (Some k) t = Fits s u l × (k ≡ length s.rows) × (t.rows ≡ add s.rows u z l)
 
 -- The first reason why v can't hang on u at length l.
-abbrev pub Refused : List Row → (v u l : ℕ) → HangFault → Type 0
-Refused rows v u l Driver = v ≡ 0
-Refused rows v u l NoRow = (v ≢ 0) × (length rows ≤ v)
-Refused rows v u l NoParent = (v ≢ 0) × (v < length rows) × (length rows ≤ u)
-Refused rows v u l TooLong = (v ≢ 0) × (v < length rows) × (u < length rows) × (LONGEST < l)
-Refused rows v u l Below = (v ≢ 0) × (v < length rows) × (u < length rows) × (l ≤ LONGEST) × (under rows u v ≡ true)
+abbrev pub HangRefused : List Row → (v u l : ℕ) → HangFault → Type 0
+HangRefused rows v u l Driver = v ≡ 0
+HangRefused rows v u l NoRow = (v ≢ 0) × (length rows ≤ v)
+HangRefused rows v u l NoParent = (v ≢ 0) × (v < length rows) × (length rows ≤ u)
+HangRefused rows v u l TooLong = (v ≢ 0) × (v < length rows) × (u < length rows) × (LONGEST < l)
+HangRefused rows v u l Below = (v ≢ 0) × (v < length rows) × (u < length rows) × (l ≤ LONGEST) × (under rows u v ≡ true)
 
 -- Asked whether v can hang on u at length l, the answer is r.
 abbrev pub CanHang : List Row → (v u l : ℕ) → Result (Unit {0}) HangFault → Type 0
 CanHang rows v u l (Ok _) = MayHang rows v u × (l ≤ LONGEST)
-CanHang rows v u l (Err e) = (MayHang rows v u → l ≤ LONGEST → ⊥) × Refused rows v u l e
+CanHang rows v u l (Err e) = (MayHang rows v u → l ≤ LONGEST → ⊥) × HangRefused rows v u l e
 
 -- Asked to hang v on u at length l, the tree s answers r and is t then.
 abbrev pub Changed : (s : Tree) (v u l : ℕ) → Result (Unit {0}) HangFault → (t : Tree) → Type 0
 Changed s v u l (Ok _) t = MayHang s.rows v u × (l ≤ LONGEST) × (t.rows ≡ hang s.rows v u l)
-Changed s v u l (Err e) t = (MayHang s.rows v u → l ≤ LONGEST → ⊥) × Refused s.rows v u l e × (t ≡ s)
+Changed s v u l (Err e) t = (MayHang s.rows v u → l ≤ LONGEST → ⊥) × HangRefused s.rows v u l e × (t ≡ s)

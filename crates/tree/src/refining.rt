@@ -19,11 +19,11 @@ struct HookSearch<'a, S: Space> {
 impl<'a, S: Space> HookSearch<'a, S> {
     ghost use Rattle.order.specs.Bests.{BestOf};
     ghost use Rattle.tree_laws.specs.Hooks.{hook_before};
-    ghost use Rattle.tree.specs.Searches.{MoveAt, MoveIn};
+    ghost use Rattle.tree.specs.Searches.{HookMoveAt, HookMoveIn};
 
     /// The move that hangs `v` on `u`, where it is one.
     fn weigh(&self, v: usize, u: usize) -> Option<Hook>
-        ensures { BestOf hook_before (MoveAt S.Space self.now v u) result }
+        ensures { BestOf hook_before (HookMoveAt S.Space self.now v u) result }
     {
         let old = self.table.row(v)?;
         let parent = self.table.row(u)?;
@@ -46,7 +46,7 @@ impl<'a, S: Space> HookSearch<'a, S> {
 
     /// The first of all moves.
     fn best(&self) -> Option<Hook>
-        ensures { BestOf hook_before (MoveIn S.Space self.now) result }
+        ensures { BestOf hook_before (HookMoveIn S.Space self.now) result }
     {
         let rows = self.table.len();
         first_of_pairs(rows, rows, |v, u| self.weigh(v, u))

@@ -8,7 +8,7 @@ use Rattle.order.specs.Firsts.Among.{here}
 use Rattle.order.proofs.Finding.{among_none, among_either, among_one, among_left, among_right}
 use Rattle.forest.specs.Paths.{Different}
 use Rattle.tree_laws.specs.declared.Row.{Row}
-use Rattle.tree_laws.specs.Trees.{RowTree, RowWay, OnePath, up, row_length, climb, path_in, path_length, under_in, under, along}
+use Rattle.tree_laws.specs.Trees.{RowTree, RowWay, OnePath, up, row_length, climb_rows, path_in, path_length, under_in, under, along}
 use Rattle.tree_laws.specs.Trees.RowWay.{home, down}
 use Rattle.tree_laws.proofs.Few.{few, different_push}
 
@@ -41,7 +41,7 @@ way_different (down {k} {ns} ne w) = different_push ns k (way_different w) (not_
 
 -- ---- ways and climbing
 
-pub way_from : (rows : List Row) (n k : ℕ) → climb rows n k ≡ 0 → (ns : List ℕ) × RowWay rows k ns
+pub way_from : (rows : List Row) (n k : ℕ) → climb_rows rows n k ≡ 0 → (ns : List ℕ) × RowWay rows k ns
 way_from rows zero k e = let P : ℕ → Type 0 = λ z. RowWay rows z (0 ∷ []) in (0 ∷ [], subst P (sym e) home)
 way_from rows (suc n) k e =
     ⊎_elim
@@ -49,16 +49,16 @@ way_from rows (suc n) k e =
     (λ (ne : k ≡ 0 → ⊥). let r = way_from rows n (up rows k) e in (r.0 ++ k ∷ [], down ne r.1))
     (cases_eq k 0)
 
-climb_driver : (rows : List Row) → up rows 0 ≡ 0 → (n : ℕ) → climb rows n 0 ≡ 0
+climb_driver : (rows : List Row) → up rows 0 ≡ 0 → (n : ℕ) → climb_rows rows n 0 ≡ 0
 climb_driver rows e zero = refl
-climb_driver rows e (suc n) = ap (climb rows n) e ∙ climb_driver rows e n
+climb_driver rows e (suc n) = ap (climb_rows rows n) e ∙ climb_driver rows e n
 
 way_some : {rows : List Row} {k : ℕ} {ns : List ℕ} → RowWay rows k ns → length ns ≤ 0 → ⊥
 way_some home h = omega arith
 way_some (down {k} {ns} ne w) h = omega (arith, length_push ns k)
 
 -- whoever has a way comes up to the driver in as many steps as the way has rungs, or more
-pub way_climbs : {rows : List Row} {k : ℕ} {ns : List ℕ} → up rows 0 ≡ 0 → RowWay rows k ns → (n : ℕ) → length ns ≤ suc n → climb rows n k ≡ 0
+pub way_climbs : {rows : List Row} {k : ℕ} {ns : List ℕ} → up rows 0 ≡ 0 → RowWay rows k ns → (n : ℕ) → length ns ≤ suc n → climb_rows rows n k ≡ 0
 way_climbs {rows} e home n h = climb_driver rows e n
 way_climbs e (down {k} {ns} ne w) zero h = absurd (way_some w (omega (arith, length_push ns k)))
 way_climbs e (down {k} {ns} ne w) (suc n) h = way_climbs e w n (omega (arith, length_push ns k))
@@ -136,7 +136,7 @@ pub record Placed (rows : List Row) (k : ℕ) : Type 0 where
   pub way : RowWay rows k ways
   pub short : length ways ≤ length rows
   pub path : (n : ℕ) → length rows ≤ suc n → path_in rows n k ≡ along rows ways
-  pub arrives : (n : ℕ) → length rows ≤ suc n → climb rows n k ≡ 0
+  pub arrives : (n : ℕ) → length rows ≤ suc n → climb_rows rows n k ≡ 0
 
 pub placed : {rows : List Row} → RowTree rows → (k : ℕ) → k < length rows → Placed rows k
 placed {rows} t k h =

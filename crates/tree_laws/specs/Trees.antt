@@ -22,9 +22,9 @@ abbrev pub row_spot : List Row → ℕ → Spot
 row_spot rows k = (row_of rows k).spot
 
 -- The row that is reached from k by going n times to the parent.
-abbrev pub climb : List Row → (n k : ℕ) → ℕ
-climb rows zero k = k
-climb rows (suc n) k = climb rows n (up rows k)
+abbrev pub climb_rows : List Row → (n k : ℕ) → ℕ
+climb_rows rows zero k = k
+climb_rows rows (suc n) k = climb_rows rows n (up rows k)
 
 -- The lengths from k up to the driver, over at most n rows.
 abbrev pub path_in : List Row → (n k : ℕ) → ℕ
@@ -53,7 +53,7 @@ pub record RowTree (rows : List Row) : Type 0 where
   pub driver : up rows 0 ≡ 0
   pub still : row_length rows 0 ≡ 0
   pub parents : (k : ℕ) → k < length rows → up rows k < length rows
-  pub reaches : (k : ℕ) → k < length rows → climb rows (length rows) k ≡ 0
+  pub reaches : (k : ℕ) → k < length rows → climb_rows rows (length rows) k ≡ 0
 
 -- The rows of a way from the driver down to k, each the parent of the next.
 pub data RowWay (rows : List Row) : (k : ℕ) → List ℕ → Type 0 where

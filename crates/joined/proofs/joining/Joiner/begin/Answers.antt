@@ -1,7 +1,7 @@
 use Rattle.std.proofs.Common.{ℕ, List, length, vec_items, sym, ap, subst, arith}
 use Rattle.space.specs.Totals.{meet_or_start, capped_distance}
 use Rattle.joined.specs.Joinings.{Joinable}
-use Rattle.joined.specs.Pairs.{Firsts}
+use Rattle.joined.specs.Pairs.{FirstPairs}
 use Rattle.joined.proofs.Stepping.{standing_start}
 use Rattle.joined.proofs.joining.Joiner.begin.Goals as goal
 
@@ -16,5 +16,5 @@ returns-clause-standing g c =
     let e = c.fill.ensures.items in
     let v = c.as_slice.ensures.value in
     let P : List ℕ → Type 0 = λ xs. Joinable rows xs in
-    let Q : List ℕ → Type 0 = λ xs. Firsts d j rows xs F in
+    let Q : List ℕ → Type 0 = λ xs. FirstPairs d j rows xs F in
     standing_start d j rows group F t.tree (subst P (sym e) c.requires) (subst Q v c.start.ensures.firsts) (omega (arith, c.start.ensures.few, ap length v))

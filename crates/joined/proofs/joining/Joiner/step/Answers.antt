@@ -3,7 +3,7 @@ use Rattle.order.specs.Firsts.{FirstOf}
 use Rattle.build_laws.specs.Joining.{far_of, others}
 use Rattle.space.specs.Totals.{meet_or_start, capped_distance}
 use Rattle.build_laws.specs.declared.pair.Pair.{Pair}
-use Rattle.joined.specs.Pairs.{Firsts}
+use Rattle.joined.specs.Pairs.{FirstPairs}
 use Rattle.build_laws.specs.Pairs.{pair_before}
 use Rattle.joined.proofs.Keeping.{kept_few}
 use Rattle.joined.proofs.Partnering.{best_farthest, best_near, best_none, firsts_best}
@@ -125,7 +125,7 @@ returns g c =
     let G = vec_items c.renew.new.partners in
     let e : left ≡ filter (others p.a p.b) group ++ c.in-Some-insert_meet.new ∷ [] =
     c.push_reserved.ensures.items ∙ ap (λ xs. xs ++ c.in-Some-insert_meet.new ∷ []) c.leave.ensures.items in
-    let Q : List ℕ → Type 0 = λ xs. Firsts d j c.insert_meet.new.table.rows xs G in
+    let Q : List ℕ → Type 0 = λ xs. FirstPairs d j c.insert_meet.new.table.rows xs G in
     let far : 0 < far_of d j rows p.a p.b = omega (arith, best.0.long, c.if-pair-eq0.false) in
     stepped_at d j rows t.tree group F c.requires p.a p.b best.0.pair c.insert_meet.new.table.rows left c.in-Some-insert_meet.new parted.2 parted.1 e G
     (subst Q c.as_slice-2.ensures.value c.renew.ensures.firsts)

@@ -1,7 +1,7 @@
 use Rattle.std.proofs.Common.{List, sym, subst, vec_items, rules}
 use Rattle.space.specs.Totals.{meet_or_start, capped_distance}
 use Rattle.build_laws.specs.declared.pair.Pair.{Pair}
-use Rattle.joined.specs.Pairs.{Firsts}
+use Rattle.joined.specs.Pairs.{FirstPairs}
 use Rattle.joined.proofs.Partnering.{never_farther, renewed, renewed_none, renewed_some}
 use Rattle.joined.proofs.partners.Group.renew.Goals as goal
 
@@ -16,7 +16,7 @@ returns-in-Some-clause-firsts g c =
     let olds = vec_items c.args.partners.now in
     let F = vec_items c.retain_mut.new.self in
     let none = never_farther g.S.Space c.args.self.now.space.now j rows group c.args.change.new in
-    let P : List Pair → Type 0 = λ G. Firsts d j rows group G in
+    let P : List Pair → Type 0 = λ G. FirstPairs d j rows group G in
     let f = renewed d j rows group a b _ _ (λ x k t y q. search rules) olds F c.retain_mut.ensures.filtered c.requires.ready.stale in
     subst P (sym c.push_reserved.ensures.items) (renewed_some d j rows group a b c.args.change.new olds c.requires.ready F f c.in-Some.found (c.in-Some.ensures none))
 

@@ -1,5 +1,5 @@
 use Rattle.std.proofs.Common.{Option, ap, subst, rules}
-use Rattle.net_laws.specs.Sinks.{Sink}
+use Rattle.net_laws.specs.Sinks.{FiguredSink}
 use Rattle.net_laws.specs.Worsts.{worst_before}
 use Rattle.net_laws.specs.declared.reading.Worst.{Worst}
 use Rattle.net_lemmas.proofs.Moves.{not_none}
@@ -29,6 +29,6 @@ returns g c =
     let st = c.in_ok-tree.ensures.some in
     let pins = ap (λ (x : Inside g.row.S.Denot). x.state.pins) c.self-inside.view_is in
     let (_, found, first) = c.first_found.ensures in
-    let Best : Option Worst → Type 0 = λ o. BestOf worst_before (Sink d n.state rows) o in
+    let Best : Option Worst → Type 0 = λ o. BestOf worst_before (FiguredSink d n.state rows) o in
     let best = subst Best c.unwrap.ensures (first_sink d n.state rows _ c.first_found.result pins found first (λ k r h p. search rules)) in
     rw (← c.self.view_is) (not_none n.state.tree rows st, (rows, st, worst_own g.S.Space s n.state (g.met.S.Space.metric s) c.self.invariant rows c.unwrap.result (worst_sink d n.state rows c.unwrap.result best)))

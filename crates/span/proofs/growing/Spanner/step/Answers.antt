@@ -1,6 +1,6 @@
 use Rattle.std.proofs.Common.{◌≡◌, map, filter, refl, ap, ◌∙◌}
 use Rattle.span.specs.Measured.{lengths_of}
-use Rattle.span.specs.Growth.{elsewhere, offered}
+use Rattle.span.specs.Growth.{elsewhere, offered_link}
 use Rattle.span.proofs.Grows.{lengths_fair, step_grows, step_none, step_not_refused}
 use Rattle.span.proofs.growing.Spanner.step.Goals as goal
 
@@ -18,6 +18,6 @@ returns g c =
     let d = lengths_of pins in
     let F = c.args.self.now.links.outside.items in
     let w = c.in-Some.nearest in
-    let links : c.offer.new.self.outside.items ≡ map (offered d w.v) (filter (elsewhere w.v) F) = c.offer.ensures ∙ ap (map (offered d w.v)) c.forget.ensures in
+    let links : c.offer.new.self.outside.items ≡ map (offered_link d w.v) (filter (elsewhere w.v) F) = c.offer.ensures ∙ ap (map (offered_link d w.v)) c.forget.ensures in
     let more = step_grows _ d (lengths_fair g.S.Space pins.space.now pins.spots.now) c.args.seed.now c.join.new.self F c.requires.growing w c.in-Some.ensures c.join.result c.join.ensures c.offer.new.self.outside.items links in
     record { done = refl; grows = more.0; count = more.1 }

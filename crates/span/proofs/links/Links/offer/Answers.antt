@@ -3,12 +3,12 @@ use Rattle.std.proofs.lemmas.List.{get_or_default}
 use Rattle.std.proofs.lemmas.List.Edits.{map_over_more}
 use Rattle.span_laws.specs.declared.link.Link.{Link}
 use Rattle.span.specs.Measured.{lengths_of}
-use Rattle.span.specs.Growth.{better, offered}
+use Rattle.span.specs.Growth.{better, offered_link}
 use Rattle.span.proofs.links.Links.offer.Goals as goal
 
 pub loop-old-preserved : goal.loop-old-preserved
 loop-old-preserved g c =
-    let f = offered (lengths_of c.args.pins.now) c.args.u in
+    let f = offered_link (lengths_of c.args.pins.now) c.args.u in
     let xs = c.deref_mut-old-items.result.now in
     let ys = c.loop-old.old-items in
     let i = c.loop-old.old-index in
