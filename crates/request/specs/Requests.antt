@@ -9,7 +9,6 @@ use Rattle.net_laws.specs.declared.call.Call.{Call}
 use Rattle.net_laws.specs.declared.call.Call.TheVariants.{Pin, Allow, Steiner, Edge, Unseed, Span, Straight, Hook}
 use Rattle.net_laws.specs.declared.call.JoinCall.TheVariants.{Wire, Joined, Share}
 use Rattle.request.specs.Lines.{fields_of}
-use Rattle.request.specs.declared.reading.TheConstants.{LONGEST_LINE}
 use Rattle.request.specs.declared.fault.TextFault.{TextFault}
 use Rattle.request.specs.declared.fault.TextFault.TheVariants.{LongLine, NoLetter, WrongFields, BadField, OutOfPlace, NoCall, Net}
 use Rattle.request.specs.declared.requests.Request.{Request}
@@ -141,11 +140,11 @@ ReadsFields fs (Err (Net e)) = ⊥
 
 -- What a line asks, or its refusal as text: at most 80 bytes, a known letter, that letter's fields, each field good.
 abbrev pub Reads : List ℕ → Result Request TextFault → Type 0
-Reads line (Err LongLine) = LONGEST_LINE < length line
-Reads line (Ok r) = (length line ≤ LONGEST_LINE) × ReadsFields (fields_of line) (Ok r)
-Reads line (Err NoLetter) = (length line ≤ LONGEST_LINE) × ReadsFields (fields_of line) (Err NoLetter)
-Reads line (Err WrongFields) = (length line ≤ LONGEST_LINE) × ReadsFields (fields_of line) (Err WrongFields)
-Reads line (Err (BadField f)) = (length line ≤ LONGEST_LINE) × ReadsFields (fields_of line) (Err (BadField f))
+Reads line (Err LongLine) = 80 < length line
+Reads line (Ok r) = (length line ≤ 80) × ReadsFields (fields_of line) (Ok r)
+Reads line (Err NoLetter) = (length line ≤ 80) × ReadsFields (fields_of line) (Err NoLetter)
+Reads line (Err WrongFields) = (length line ≤ 80) × ReadsFields (fields_of line) (Err WrongFields)
+Reads line (Err (BadField f)) = (length line ≤ 80) × ReadsFields (fields_of line) (Err (BadField f))
 Reads line (Err OutOfPlace) = ⊥
 Reads line (Err NoCall) = ⊥
 Reads line (Err (Net e)) = ⊥
@@ -156,4 +155,4 @@ ReadsOnly line r = (s : Result Request TextFault) → Reads line s → s ≡ r
 
 -- The line is in the grammar: it spells a request whose numbers are within their ranges.
 abbrev pub InGrammar : List ℕ → Type 0
-InGrammar line = (r : Request) × (length line ≤ LONGEST_LINE) × Ranged r × (fields_of line ≡ spelled r)
+InGrammar line = (r : Request) × (length line ≤ 80) × Ranged r × (fields_of line ≡ spelled r)
