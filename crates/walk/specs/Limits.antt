@@ -3,7 +3,6 @@ use Rattle.std.specs.Prelude.{◌≡◌, ℕ, ◌+◌, ◌-◌, ◌*◌, ◌≤�
 use Rattle.std.specs.Fmt.{decimal}
 use Rattle.space.specs.declared.TheConstants.{LONGEST}
 use Rattle.seed.specs.declared.store.TheConstants.{NODES}
-use Rattle.walk.specs.declared.allowance.TheConstants.{ALLOWANCE_LIMIT}
 
 -- The two numbers in decimal, with a slash (47) between them.
 abbrev pub ratio_text : (p q : ℕ) → List ℕ
