@@ -5,8 +5,8 @@
 mod net;
 mod state;
 
+pub use built_spaces::{Air, Lift, Plane};
 pub use net::Net;
 pub use net_laws::{Call, Fault, JoinCall, Layer, PinPath, SpaceFault, Worst};
-pub use built_spaces::{Air, Lift, Plane};
 pub use space::{Joining, Space, Spot};
 pub use tree_laws::Row;

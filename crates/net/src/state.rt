@@ -69,7 +69,8 @@ fn apart<S: Space>(space: &S, pins: &[Spot], spot: Spot) -> bool
     ensures { IsTrue result ↔
         ((k : ℕ) → k < length pins.now → 1 ≤ capped_distance S.Space space.now (spot_of pins.now k) spot) }
 {
-    pins.iter().all(|pin| capped_distance(space, *pin, spot) != 0)
+    pins.iter()
+        .all(|pin| capped_distance(space, *pin, spot) != 0)
 }
 
 /// The refusal of a share move as one of the net.
@@ -253,7 +254,7 @@ impl NetState {
         builder: &mut Builder,
     ) -> Result<u64, Fault>
         ensures built { StraightBuilt (capped_distance S.Space space.now)
-            self.old builder.new.broken.items result self.new }
+            self.old builder.new result self.new }
         ensures unchanged { is_err result ≡ true → self.new ≡ self.old }
     {
         self.paired()?;
@@ -272,12 +273,7 @@ impl NetState {
     }
 
     /// Joins rows on the driver, pair after pair, and answers the wire of the tree.
-    fn join<S: Joining>(
-        &mut self,
-        space: &S,
-        joiner: &mut Joiner,
-        members: &[usize],
-    ) -> u64
+    fn join<S: Joining>(&mut self, space: &S, joiner: &mut Joiner, members: &[usize]) -> u64
         requires { JoinableIn self.old members.now }
         ensures { JoinsIn (capped_distance S.Space space.now) (meet_or_start S.Space S.Joining.own space.now)
             self.old members.now result self.new }

@@ -1,4 +1,3 @@
-pub mod Distances
 pub mod Falls
 pub mod Mixed
 pub mod Spaced

@@ -1,18 +1,17 @@
 -- How the rows of a straight tree are laid, one after another. Assumes nothing.
-use Rattle.std.specs.Prelude.{◌≡◌, ℕ, ◌<◌, ◌≤◌, false, List, map, length, ◌≢◌}
+use Rattle.std.specs.Prelude.{◌≡◌, ℕ, ◌<◌, ◌≤◌, false, List, length, ◌≢◌, slice_index}
 use Rattle.std.specs.Option.{unwrap_or}
 use Rattle.space.specs.declared.TheConstants.{LONGEST}
 use Rattle.space.specs.declared.spot.Spot.{Spot}
 use Rattle.walk_laws.specs.Walk.{Rules}
 use Rattle.walk_laws.specs.Walk as laws
-use Rattle.walk.specs.declared.row.NodeRow.{NodeRow as WalkRow}
 use Rattle.tree_laws.specs.declared.Row.{Row}
 use Rattle.tree_laws.specs.Trees.{row_of}
 use Rattle.build_laws.specs.Straight.{straight_row}
 
--- The direct distances of a walk's rows.
-abbrev pub directs_of : List WalkRow → List ℕ
-directs_of rows = map (λ r. r.direct) rows
+-- Nodes are laid by their direct distances alone, without pins.
+abbrev pub laying_rules : (directs : List ℕ) → Rules
+laying_rules directs = record { p = 0; q = 0; pins = 0; direct = slice_index directs }
 
 -- The estimate of a node; 0 where it has none.
 abbrev pub height : laws.Marks → ℕ → ℕ

@@ -6,6 +6,7 @@ use crate::laying::{Plan, measure};
 use seed::{NODES, SeedTree};
 use space::{Space, Spot};
 use std::alloc::{AllocError, Global};
+use std::marker::Model;
 use walk::Allowance;
 
 /// The memory for building straight trees, reserved once: the walk, and the breakpoints that it found.
@@ -16,10 +17,19 @@ pub struct Builder {
     ghost room: { NODES ≤ vec_capacity broken },
 }
 
+// A builder is seen as the breakpoints of the tree that it built last.
+impl Model for Builder {
+    ghost use Rattle.std.specs.Prelude.{ℕ, List};
+
+    ghost Value = { List ℕ };
+
+    ghost view = { λ b. b.broken.items };
+}
+
 impl Builder {
     /// Room for as many nodes as a seed can have, and no breakpoints yet.
     pub fn new(heap: Global) -> Result<Builder, AllocError>
-        ensures { IfOk result (λ b. b.broken.items ≡ []) }
+        ensures { IfOk result (λ b. b ≡ []) }
     {
         let walk = walk::Walk::new(heap)?;
         let broken = Vec::with_capacity(heap, NODES)?;
@@ -38,8 +48,8 @@ impl Builder {
         seed: &SeedTree<'_>,
         tree: &mut tree::Tree,
     ) -> Option<u64>
-        ensures { Answer S.Space space.now tree.old self.old.broken.items spots.now allowance.p allowance.q pins
-            seed.now.seed.now self.new.broken.items result tree.new }
+        ensures { Answer S.Space space.now tree.old self.old spots.now allowance.p allowance.q pins
+            seed.now.seed.now self.new result tree.new }
     {
         measure(&mut self.walk, space, spots)?;
         self.walk.walk(seed, pins, allowance).ok()?;
@@ -53,7 +63,7 @@ impl Builder {
 
     /// The breakpoints of the tree that was built last, in ascending number.
     pub fn broken(&self) -> &[usize]
-        ensures { result.now ≡ self.now.broken.items }
+        ensures { result.now ≡ self.now }
     {
         self.broken.as_slice()
     }

@@ -1,13 +1,12 @@
 // The direct distances of the nodes, and the rows of the straight tree.
-ghost use Rattle.std.specs.Prelude.{◌≡◌, ◌≤◌, ◌↔◌, map, length, vec_capacity, slice_index_or, IsSome, OnSome};
+ghost use Rattle.std.specs.Prelude.{◌≡◌, ◌≤◌, ◌↔◌, map, length, vec_capacity, slice_index, slice_index_or, IsSome, OnSome};
 ghost use Rattle.space.specs.declared.TheConstants.{LONGEST};
 ghost use Rattle.seed.specs.declared.store.TheConstants.{NODES};
 ghost use Rattle.space.specs.Totals.{capped_distance};
-ghost use Rattle.walk.specs.Marks.{directs, idle, marks};
-ghost use Rattle.walk.specs.Tables.{rows_of as walkRows};
+ghost use Rattle.walk.specs.Marks.{marks_of, unmarked};
 ghost use Rattle.straight.specs.Built.{breakpoints_of};
 ghost use Rattle.space.specs.Spots.{spot_of};
-ghost use Rattle.straight.specs.Laying.{Falling, directs_of};
+ghost use Rattle.straight.specs.Laying.{Falling};
 
 use space::{Space, Spot, capped_distance, spot_of};
 use walk::Mark;
@@ -16,7 +15,7 @@ use walk::Mark;
 pub(crate) fn measure<S: Space>(walk: &mut walk::Walk, space: &S, spots: &[Spot]) -> Option<()>
     ensures room { IsSome result ↔ (length spots.now ≤ NODES) }
     ensures rows { OnSome result
-        (directs_of (walkRows walk.new) ≡ map (capped_distance S.Space space.now (spot_of spots.now 0)) spots.now) }
+        (walk.new.directs ≡ map (capped_distance S.Space space.now (spot_of spots.now 0)) spots.now) }
 {
     walk.clear();
     let driver = spot_of(spots, 0);
@@ -39,7 +38,7 @@ impl<'a> Plan<'a> {
 
     /// The direct distance of a node; 0 where there is no such node.
     fn direct(&self, v: usize) -> u64
-        ensures value { result ≡ directs (walkRows self.now.walk.now) v }
+        ensures value { result ≡ slice_index self.now.walk.now.directs v }
         ensures short { result ≤ LONGEST }
     {
         self.walk.direct(v).unwrap_or_default()
@@ -47,7 +46,7 @@ impl<'a> Plan<'a> {
 
     /// The mark of a node; one without an estimate where there is no such node.
     fn mark(&self, v: usize) -> Mark
-        ensures { result ≡ (slice_index_or (walkRows self.now.walk.now) v idle).mark }
+        ensures { result ≡ slice_index_or self.now.walk.now.marks v unmarked }
     {
         self.walk.mark(v).unwrap_or_default()
     }
@@ -68,10 +67,11 @@ impl<'a> Plan<'a> {
     /// Lays the rows of the straight tree, and lists the breakpoints. Every node can be hung.
     pub(crate) fn lay(&self, tree: &mut tree::Tree, broken: &mut Vec<usize>) -> Option<()>
         requires room { NODES ≤ vec_capacity broken.old }
-        requires falling { Falling (length self.now.spots.now) (marks (walkRows self.now.walk.now)) }
+        requires falling { Falling (length self.now.spots.now) (marks_of self.now.walk.now.marks) }
         ensures done { IsSome result }
         ensures rows { LaidTo self.now (length self.now.spots.now) tree.new.rows }
-        ensures found { broken.new.items ≡ breakpoints_of (marks (walkRows self.now.walk.now)) (length self.now.spots.now) }
+        ensures found { broken.new.items
+            ≡ breakpoints_of (marks_of self.now.walk.now.marks) (length self.now.spots.now) }
         ensures room { vec_capacity broken.new ≡ vec_capacity broken.old }
     {
         self.star(tree)?;

@@ -7,7 +7,7 @@ use Rattle.walk_laws.specs.Walk as laws
 use Rattle.walk.specs.declared.row.NodeRow.{NodeRow}
 use Rattle.walk.specs.Marks.{idle, mark_of, marks, directs, fresh_mark, fresh_row}
 use Rattle.walk.specs.Tables.{Renewed}
-use Rattle.walk.specs.Walked.{Ready}
+use Rattle.walk.specs.Walked.{DirectsKept, Ready}
 
 -- The rows below i are fresh, and the others are as they were.
 pub record Renewing (rows rows' : List NodeRow) (i : ℕ) : Type 0 where
@@ -35,6 +35,9 @@ module _ (rows rows' : List NodeRow) (R : Renewed rows rows') where
       at k (inl h) = ap (λ (r : NodeRow). r.direct) (R.each k h)
       at k (inr h) =
           ap (λ (r : NodeRow). r.direct) (get_or_past rows' k idle (omega (arith, R.count)) ∙ sym (get_or_past rows k idle h))
+
+  pub renewed_kept : DirectsKept rows rows'
+  renewed_kept = record { count = R.count; direct = λ k. ap (λ f. f k) renewed_directs }
 
   -- They are ready for a walk, where there is one for each of n nodes.
   pub renewed_ready : (n : ℕ) → 0 < n → length rows ≡ n → Ready n rows'

@@ -2,3 +2,4 @@ pub mod Counted
 pub mod Fresh
 pub mod Loop
 pub mod Marked
+pub mod Viewed

@@ -1,7 +1,6 @@
 -- The loop over the rows: what holds at each turn. Assumes sound edges that are planted.
 use Rattle.std.proofs.Common.{◌≡◌, ℕ, ◌+◌, ◌*◌, ◌<◌, ◌≤◌, List, length, get_or, sym, refl, ap, ◌∙◌, subst, arith}
 use mathlib.Core.Path.{fun_ext}
-use Rattle.std.proofs.lemmas.List.{get_or_read}
 use Rattle.seed.specs.declared.store.TheConstants.{NODES}
 use Rattle.forest.specs.declared.Edge.{Edge}
 use Rattle.forest.specs.Edges.{Sound}
@@ -75,87 +74,68 @@ module _ {p q pins n : ℕ} {E : List Edge} {first rows : List NodeRow} {v step 
         keeps = subst T (sym is) (walk_keeps_lem R n L.planted.rank L.planted.forest pos (planted_spans n E s L.planted));
       }
 
-  -- The row x was read at v.
-  module _ (x : NodeRow) (read : x ≡ get_or rows v x) where
-    at : x ≡ get_or rows v idle
-    at = get_or_read rows v x (omega (arith, L.place.below, L.count)) read idle
+  pub loop_needs : {u l : ℕ} → Least E v (froms rows v) (nexts rows v) u l → Down rows v u l
+  loop_needs found =
+      record {
+        apart = down_other pos acc L.place found;
+        far = omega (arith, down_below pos acc L.place found, L.count);
+        told = down_fits pos acc L.place found;
+        room = λ e h. omega (arith, down_room pos acc L.place found e h);
+      }
 
-    least : {u l : ℕ} → Least E v x.from x.next u l → Least E v (froms rows v) (nexts rows v) u l
-    least {u} {l} f = let P : NodeRow → Type 0 = λ z. Least E v z.from z.next u l in subst P at f
+  pub loop_down : {u l : ℕ} → Least E v (froms rows v) (nexts rows v) u l → (rows' : List NodeRow) → Gone p q pins v u l rows rows' →
+      Looping p q pins n E first rows' u (step + 1)
+  loop_down {u} {l} found rows' g =
+      let D : directs rows ≡ directs first = fun_ext (λ z. L.direct z) in
+      let is : marks rows' ≡ laws.enter R u (laws.relax v u l (marks rows)) =
+      g.marked ∙ ap (λ d. laws.enter (record { p = p; q = q; pins = pins; direct = d }) u (laws.relax v u l (marks rows))) D in
+      let T : laws.Marks → Type 0 =
+      λ S. Place R n E L.planted.rank total highest final (froms rows') (from_lengths rows') (nexts rows') S u (step + 1) in
+      record {
+        planted = L.planted;
+        place =
+            subst T (sym is)
+            (place_down pos acc L.place found
+            (record {
+              from_new = g.from_new;
+              from_length_new = g.from_length_new;
+              next_new = g.next_new;
+              next_more = g.next_more;
+              from_old = g.from_old;
+              from_length_old = g.from_length_old;
+              next_old = g.next_old;
+            }));
+        count = g.count ∙ L.count;
+        direct = λ z. g.direct z ∙ L.direct z;
+      }
 
-    pub loop_needs : {u l : ℕ} → Least E v x.from x.next u l → Down rows v u l
-    loop_needs f =
-        let found = least f in
-        record {
-          apart = down_other pos acc L.place found;
-          far = omega (arith, down_below pos acc L.place found, L.count);
-          told = down_fits pos acc L.place found;
-          room = λ e h. omega (arith, down_room pos acc L.place found e h);
-        }
+  rise : Nothing E v (froms rows v) (nexts rows v) → step < total → Rise R n E L.planted.rank total highest final (froms rows) (from_lengths rows) (nexts rows) (marks rows) v step
+  rise none early = climbs pos acc L.place none early
 
-    pub loop_down : {u l : ℕ} → Least E v x.from x.next u l → (rows' : List NodeRow) → Gone p q pins v u l rows rows' →
-        Looping p q pins n E first rows' u (step + 1)
-    loop_down {u} {l} f rows' g =
-        let D : directs rows ≡ directs first = fun_ext (λ z. L.direct z) in
-        let is : marks rows' ≡ laws.enter R u (laws.relax v u l (marks rows)) =
-        g.marked ∙ ap (λ d. laws.enter (record { p = p; q = q; pins = pins; direct = d }) u (laws.relax v u l (marks rows))) D in
-        let T : laws.Marks → Type 0 =
-        λ S. Place R n E L.planted.rank total highest final (froms rows') (from_lengths rows') (nexts rows') S u (step + 1) in
-        record {
-          planted = L.planted;
-          place =
-              subst T (sym is)
-              (place_down pos acc L.place (least f)
-              (record {
-                from_new = g.from_new;
-                from_length_new = g.from_length_new;
-                next_new = g.next_new;
-                next_more = g.next_more;
-                from_old = g.from_old;
-                from_length_old = g.from_length_old;
-                next_old = g.next_old;
-              }));
-          count = g.count ∙ L.count;
-          direct = λ z. g.direct z ∙ L.direct z;
-        }
+  pub loop_rise : Nothing E v (froms rows v) (nexts rows v) → step < 2 * size_of L.planted.forest → Up rows v (froms rows v) (from_lengths rows v)
+  loop_rise none early =
+      let r = rise none early in
+      record { far = omega (arith, r.below, L.count); told = λ e h. r.fits e h }
 
-    rise : Nothing E v x.from x.next → step < total → Rise R n E L.planted.rank total highest final (froms rows) (from_lengths rows) (nexts rows) (marks rows) v step
-    rise none early =
-        let P : NodeRow → Type 0 = λ z. Nothing E v z.from z.next in
-        climbs pos acc L.place (subst P at none) early
-
-    pub loop_rise : Nothing E v x.from x.next → step < 2 * size_of L.planted.forest → Up rows v x.from x.from_length
-    loop_rise none early =
-        let r = rise none early in
-        record {
-          far = omega (arith, r.below, L.count, ap (λ z. z.from) at);
-          told = λ e h. omega (arith, r.fits e h, ap (λ z. z.from_length) at);
-        }
-
-    pub loop_up : Nothing E v x.from x.next → step < 2 * size_of L.planted.forest → (rows' : List NodeRow) →
-        marks rows' ≡ laws.relax v x.from x.from_length (marks rows) → Places rows rows' →
-        Looping p q pins n E first rows' x.from (step + 1)
-    loop_up none early rows' is same =
-        let S : NodeRow → laws.Marks = λ z. laws.relax v z.from z.from_length (marks rows) in
-        let A : (ℕ → ℕ) → Type 0 =
-        λ f. Place R n E L.planted.rank total highest final f (from_lengths rows) (nexts rows) (S (get_or rows v idle)) (froms rows v) (step + 1) in
-        let B : (ℕ → ℕ) → Type 0 =
-        λ f. Place R n E L.planted.rank total highest final (froms rows') f (nexts rows) (S (get_or rows v idle)) (froms rows v) (step + 1) in
-        let C : (ℕ → ℕ) → Type 0 =
-        λ f. Place R n E L.planted.rank total highest final (froms rows') (from_lengths rows') f (S (get_or rows v idle)) (froms rows v) (step + 1) in
-        let D : NodeRow → Type 0 =
-        λ z. Place R n E L.planted.rank total highest final (froms rows') (from_lengths rows') (nexts rows') (S z) z.from (step + 1) in
-        let T : laws.Marks → Type 0 =
-        λ t. Place R n E L.planted.rank total highest final (froms rows') (from_lengths rows') (nexts rows') t x.from (step + 1) in
-        let F : froms rows ≡ froms rows' = fun_ext (λ z. sym (same.from z)) in
-        let G : from_lengths rows ≡ from_lengths rows' = fun_ext (λ z. sym (same.from_length z)) in
-        let N : nexts rows ≡ nexts rows' = fun_ext (λ z. sym (same.next z)) in
-        record {
-          planted = L.planted;
-          place = subst T (sym is) (subst D (sym at) (subst C N (subst B G (subst A F (rise none early).place))));
-          count = same.count ∙ L.count;
-          direct = λ z. same.direct z ∙ L.direct z;
-        }
+  pub loop_up : Nothing E v (froms rows v) (nexts rows v) → step < 2 * size_of L.planted.forest → (rows' : List NodeRow) →
+      marks rows' ≡ laws.relax v (froms rows v) (from_lengths rows v) (marks rows) → Places rows rows' →
+      Looping p q pins n E first rows' (froms rows v) (step + 1)
+  loop_up none early rows' is same =
+      let S : laws.Marks = laws.relax v (froms rows v) (from_lengths rows v) (marks rows) in
+      let P : (ℕ → ℕ) → (ℕ → ℕ) → (ℕ → ℕ) → laws.Marks → Type 0 =
+      λ f g h T. Place R n E L.planted.rank total highest final f g h T (froms rows v) (step + 1) in
+      let F : froms rows ≡ froms rows' = fun_ext (λ z. sym (same.from z)) in
+      let G : from_lengths rows ≡ from_lengths rows' = fun_ext (λ z. sym (same.from_length z)) in
+      let N : nexts rows ≡ nexts rows' = fun_ext (λ z. sym (same.next z)) in
+      let from : P (froms rows') (from_lengths rows) (nexts rows) S = subst (λ f. P f (from_lengths rows) (nexts rows) S) F (rise none early).place in
+      let length_ : P (froms rows') (from_lengths rows') (nexts rows) S = subst (λ g. P (froms rows') g (nexts rows) S) G from in
+      let next : P (froms rows') (from_lengths rows') (nexts rows') S = subst (λ h. P (froms rows') (from_lengths rows') h S) N length_ in
+      record {
+        planted = L.planted;
+        place = subst (P (froms rows') (from_lengths rows') (nexts rows')) (sym is) next;
+        count = same.count ∙ L.count;
+        direct = λ z. same.direct z ∙ L.direct z;
+      }
 
 -- The steps of the loop are twice the edges, and those are the nodes of the forest.
 pub loop_steps : (n : ℕ) (E : List Edge) (T : Planted n E) (k : ℕ) → k ≡ length E → length E + 1 ≡ n → 2 * k ≡ 2 * size_of T.forest

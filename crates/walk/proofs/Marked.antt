@@ -55,13 +55,19 @@ part_set f rows v r h s x = go (cases_eq x v)
 abbrev pub stepped : NodeRow → ℕ → NodeRow
 stepped r k = record { mark = r.mark; direct = r.direct; from = r.from; from_length = r.from_length; next = k }
 
--- The rows once u was relaxed from v, its row b read and put back with the mark m, and the row a of v read then.
-module _ (p q pins v u l : ℕ) (rows rows1 : List NodeRow) (m : Mark) (a b : NodeRow) (hv : v < length rows) (hu : u < length rows) (ne : u ≡ v → ⊥) (one : marks rows1 ≡ laws.relax v u l (marks rows)) (same : Places rows rows1) (to : b ≡ get_or rows1 u idle) (at : a ≡ get_or (set rows1 u (opened m b.direct v l)) v idle) where
+-- The rows once u was relaxed from v, its row b put back with the mark m; a is the row of v then.
+module _ (p q pins v u l : ℕ) (rows rows1 : List NodeRow) (m : Mark) (hv : v < length rows) (hu : u < length rows) (ne : u ≡ v → ⊥) (one : marks rows1 ≡ laws.relax v u l (marks rows)) (same : Places rows rows1) where
+  abbrev b : NodeRow
+  b = get_or rows1 u idle
+
   abbrev row : NodeRow
   row = opened m b.direct v l
 
   abbrev rows2 : List NodeRow
   rows2 = set rows1 u row
+
+  abbrev a : NodeRow
+  a = get_or rows2 v idle
 
   abbrev rows3 : List NodeRow
   rows3 = set rows2 v (stepped a (u + 1))
@@ -82,23 +88,23 @@ module _ (p q pins v u l : ℕ) (rows rows1 : List NodeRow) (m : Mark) (a b : No
   gone_rows n =
       record {
         marked =
-            fun_ext (λ x. part_set (λ z. mark_of z.mark) rows2 v (stepped a (u + 1)) hv2 (ap (λ z. mark_of z.mark) at) x) ∙
-            enter_row rows1 p q pins u row hu1 (n ∙ ap (λ z. entered_by (laws.is_a_sink (walk_rules p q pins rows1) u) p q z.direct z.mark.est (mark_of z.mark)) to) ∙
+            fun_ext (λ x. part_set (λ z. mark_of z.mark) rows2 v (stepped a (u + 1)) hv2 refl x) ∙
+            enter_row rows1 p q pins u row hu1 n ∙
             ap (λ d. laws.enter (record { p = p; q = q; pins = pins; direct = d }) u (marks rows1)) D ∙
             ap (λ S. laws.enter (walk_rules p q pins rows) u S) one;
         count = length-set rows2 v (stepped a (u + 1)) ∙ length-set rows1 u row ∙ same.count;
         direct =
-            λ x. part_set (λ z. z.direct) rows2 v (stepped a (u + 1)) hv2 (ap (λ z. z.direct) at) x ∙
-            part_set (λ z. z.direct) rows1 u row hu1 (ap (λ z. z.direct) to) x ∙ same.direct x;
-        from_new = part_set (λ z. z.from) rows2 v (stepped a (u + 1)) hv2 (ap (λ z. z.from) at) u ∙ ap (λ z. z.from) new;
-        from_length_new = part_set (λ z. z.from_length) rows2 v (stepped a (u + 1)) hv2 (ap (λ z. z.from_length) at) u ∙ ap (λ z. z.from_length) new;
+            λ x. part_set (λ z. z.direct) rows2 v (stepped a (u + 1)) hv2 refl x ∙
+            part_set (λ z. z.direct) rows1 u row hu1 refl x ∙ same.direct x;
+        from_new = part_set (λ z. z.from) rows2 v (stepped a (u + 1)) hv2 refl u ∙ ap (λ z. z.from) new;
+        from_length_new = part_set (λ z. z.from_length) rows2 v (stepped a (u + 1)) hv2 refl u ∙ ap (λ z. z.from_length) new;
         next_new = ap (λ z. z.next) (get_or-set_other rows2 v u (stepped a (u + 1)) idle ne) ∙ ap (λ z. z.next) new;
         next_more = ap (λ z. z.next) (get_or-set_same rows2 v (stepped a (u + 1)) idle hv2);
         from_old =
-            λ x h. part_set (λ z. z.from) rows2 v (stepped a (u + 1)) hv2 (ap (λ z. z.from) at) x ∙
+            λ x h. part_set (λ z. z.from) rows2 v (stepped a (u + 1)) hv2 refl x ∙
             ap (λ z. z.from) (get_or-set_other rows1 u x row idle h) ∙ same.from x;
         from_length_old =
-            λ x h. part_set (λ z. z.from_length) rows2 v (stepped a (u + 1)) hv2 (ap (λ z. z.from_length) at) x ∙
+            λ x h. part_set (λ z. z.from_length) rows2 v (stepped a (u + 1)) hv2 refl x ∙
             ap (λ z. z.from_length) (get_or-set_other rows1 u x row idle h) ∙ same.from_length x;
         next_old =
             λ x h k. ap (λ z. z.next) (get_or-set_other rows2 v x (stepped a (u + 1)) idle k) ∙

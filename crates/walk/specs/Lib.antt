@@ -1,4 +1,5 @@
 pub mod Limits
 pub mod Marks
 pub mod Tables
+pub mod WalkValue
 pub mod Walked

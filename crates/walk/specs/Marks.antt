@@ -16,11 +16,19 @@ fresh_mark k = record { est = cond (k == 0) (Some 0) None; parent = 0; edge = 0;
 abbrev pub fresh_row : (k direct : ℕ) → NodeRow
 fresh_row k direct = record { mark = fresh_mark k; direct = direct; from = 0; from_length = 0; next = 0 }
 
+-- The mark of a node that the walk has not reached.
+abbrev pub unmarked : Mark
+unmarked = record { est = None; parent = 0; edge = 0; broken = false }
+
+-- The marks of all nodes; past them every mark is blank.
+abbrev pub marks_of : List Mark → laws.Marks
+marks_of ms v = mark_of (slice_index_or ms v unmarked)
+
 -- What stands past the rows: a node that the walk has not reached.
 abbrev pub idle : NodeRow
 idle =
     record {
-      mark = record { est = None; parent = 0; edge = 0; broken = false };
+      mark = unmarked;
       direct = 0;
       from = 0;
       from_length = 0;

@@ -1,5 +1,5 @@
 -- What a walk over a seed leaves in the rows. Assumes nothing.
-use Rattle.std.specs.Prelude.{◌≡◌, ℕ, List, length}
+use Rattle.std.specs.Prelude.{◌≡◌, ℕ, List, length, slice_index}
 use Rattle.forest.specs.declared.Edge.{Edge}
 use Rattle.forest.specs.Growth.{Planted}
 use Rattle.walk_laws.specs.Walk as laws
@@ -7,9 +7,8 @@ use Rattle.walk_laws.specs.Promise.{WalkGuarantee, SeenFrom}
 use Rattle.walk.specs.declared.row.NodeRow.{NodeRow}
 use Rattle.seed.specs.declared.store.Seed.{Seed}
 use Rattle.walk.specs.declared.allowance.Allowance.{Allowance}
-use Rattle.walk.specs.declared.table.Walk.{Walk}
-use Rattle.walk.specs.Marks.{marks, froms, nexts, directs, walk_rules}
-use Rattle.walk.specs.Tables.{rows_of}
+use Rattle.walk.specs.declared.row.Mark.{Mark}
+use Rattle.walk.specs.Marks.{directs, froms, marks, marks_of, nexts}
 
 -- Rows that no walk has touched yet, one for each of n nodes.
 pub record Ready (n : ℕ) (rows : List NodeRow) : Type 0 where
@@ -25,13 +24,13 @@ pub record Walked (R : laws.Rules) (n : ℕ) (E : List Edge) (S : laws.Marks) : 
   pub is : S ≡ laws.walk R 0 planted.forest laws.start
   pub keeps : WalkGuarantee R n planted.forest S
 
--- The rules of a walk with the direct distances of the rows of t.
-abbrev pub rules_in : Allowance → (pins : ℕ) → Walk → laws.Rules
-rules_in a pins t = walk_rules a.p a.q pins (rows_of t)
+-- The rules of a walk over nodes with these direct distances.
+abbrev pub rules_in : Allowance → (pins : ℕ) → (directs : List ℕ) → laws.Rules
+rules_in a pins directs = record { p = a.p; q = a.q; pins = pins; direct = slice_index directs }
 
--- The walk t holds what walking over the seed s gives.
-abbrev pub WalkedOver : laws.Rules → (s : Seed) → (t : Walk) → Type 0
-WalkedOver R s t = Walked R s.nodes s.edges (marks (rows_of t))
+-- The marks are what the walk over the seed s gives.
+abbrev pub WalkedOver : laws.Rules → (s : Seed) → List Mark → Type 0
+WalkedOver R s marks = Walked R s.nodes s.edges (marks_of marks)
 
 -- The rows are as many as before, and their direct distances are what they were.
 pub record DirectsKept (rows rows' : List NodeRow) : Type 0 where

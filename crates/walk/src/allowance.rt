@@ -30,7 +30,8 @@ impl fmt::Display for Allowance {
 impl Allowance {
     /// The allowance p/q; `None` where p or q is above `ALLOWANCE_LIMIT`, or q is 0.
     pub fn new(p: u64, q: u64) -> Option<Allowance>
-        ensures { MatchOption result (LawfulAllowance p q → ⊥) (λ a. LawfulAllowance p q × (a.p ≡ p) × (a.q ≡ q)) }
+        ensures { MatchOption result (LawfulAllowance p q → ⊥)
+            (λ a. LawfulAllowance p q × (a.p ≡ p) × (a.q ≡ q)) }
     {
         if p <= ALLOWANCE_LIMIT && 0 < q && q <= ALLOWANCE_LIMIT {
             Some(Allowance { p, q })

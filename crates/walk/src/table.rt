@@ -2,12 +2,13 @@ ghost use Rattle.std.specs.Prelude.{◌≡◌, ℕ, ◌≤◌, [], length, vec_c
 ghost use Rattle.space.specs.declared.TheConstants.{LONGEST};
 ghost use Rattle.seed.specs.declared.store.TheConstants.{NODES};
 ghost use Rattle.walk_laws.specs.Promise.{sum_to};
-ghost use Rattle.walk.specs.Marks.{directs, marks};
+ghost use Rattle.walk.specs.Marks.{directs, marks_of};
 
 use crate::row::{Mark, NodeRow};
 use seed::NODES;
 use space::LONGEST;
 use std::alloc::{AllocError, Global};
+use std::marker::Model;
 use thiserror::Error;
 
 /// A row for each node, numbered from 0: its direct distance from the driver, and what the walk knows of it.
@@ -19,17 +20,26 @@ pub struct Walk {
     ghost near: { (k : ℕ) → directs rows.items k ≤ LONGEST },
 }
 
+impl Model for Walk {
+    ghost use Rattle.walk.specs.WalkValue.{WalkValue, seen};
+
+    ghost Value = { WalkValue };
+
+    ghost view = { λ w. seen w.rows.items w.few w.near };
+}
+
 /// Why a seed is not walked: there is not one row for each of its nodes.
 #[derive(Clone, Copy, Debug, Drop, PartialEq, Eq, Error)]
 #[error("there is not one row for each node of the seed")]
 pub struct WalkFault;
 
 impl Walk {
-    ghost use Rattle.walk.specs.Tables.{NodeRowAdded, break_at, direct_at, mark_at, rows_of};
+    ghost use Rattle.walk.specs.Tables.{NodeRowAdded, break_at, direct_at, mark_at};
 
     /// A walk without rows. All memory that it will ever use is reserved here.
     pub fn new(heap: Global) -> Result<Walk, AllocError>
-        ensures { IfOk result (λ t. rows_of t ≡ []) }
+        ensures marks { IfOk result (λ w. w.marks ≡ []) }
+        ensures directs { IfOk result (λ w. w.directs ≡ []) }
     {
         let rows = Vec::with_capacity(heap, NODES)?;
         Ok(Walk { rows })
@@ -37,7 +47,8 @@ impl Walk {
 
     /// Drops all rows.
     pub fn clear(&mut self)
-        ensures { rows_of self.new ≡ [] }
+        ensures marks { self.new.marks ≡ [] }
+        ensures directs { self.new.directs ≡ [] }
     {
         self.rows.clear();
     }
@@ -57,28 +68,28 @@ impl Walk {
 
     /// How many rows there are.
     pub fn len(&self) -> usize
-        ensures { result ≡ length (rows_of self.now) }
+        ensures { result ≡ length self.now.marks }
     {
         self.rows.len()
     }
 
     /// The mark of the row k; `None` where there is no such row.
     pub fn mark(&self, k: usize) -> Option<Mark>
-        ensures { result ≡ mark_at (rows_of self.now) k }
+        ensures { result ≡ mark_at self.now.marks k }
     {
         self.rows.get(k).map(|row| row.mark)
     }
 
     /// The direct distance of the row k; `None` where there is no such row.
     pub fn direct(&self, k: usize) -> Option<u64>
-        ensures { result ≡ direct_at (rows_of self.now) k }
+        ensures { result ≡ direct_at self.now.directs k }
     {
         self.rows.get(k).map(|row| row.direct)
     }
 
     /// How many rows are marked as breakpoints. Costs a pass over the rows.
     pub fn breakpoints(&self) -> usize
-        ensures { result ≡ sum_to (break_at (marks (rows_of self.now))) (length (rows_of self.now)) }
+        ensures { result ≡ sum_to (break_at (marks_of self.now.marks)) (length self.now.marks) }
     {
         self.rows.iter().filter(|row| row.mark.broken).count()
     }

@@ -1,10 +1,11 @@
 // The walk: from fresh rows, down to the next child where there is one, else back up.
-ghost use Rattle.std.specs.Prelude.{◌≡◌, ◌+◌, ◌<◌, ◌↔◌, length, IsOk, OnErr, OnOk, ◌≢◌, slice_index_or};
+ghost use Rattle.std.specs.Prelude.{◌≡◌, ℕ, ◌+◌, ◌<◌, ◌≤◌, ◌↔◌, length, IsOk, OnErr, OnOk, ◌≢◌, slice_index_or};
+ghost use Rattle.space.specs.declared.TheConstants.{LONGEST};
 ghost use Rattle.walk_laws.specs.Walk.{relax};
 ghost use Rattle.walk.specs.Limits.{Low};
-ghost use Rattle.walk.specs.Marks.{Gone, Places, idle, marks, rules_by};
-ghost use Rattle.walk.specs.Tables.{Renewed, rows_of};
-ghost use Rattle.walk.specs.Walked.{DirectsKept, Ready, WalkedOver, rules_in};
+ghost use Rattle.walk.specs.Marks.{Gone, Places, directs, idle, marks, rules_by};
+ghost use Rattle.walk.specs.Tables.{Renewed};
+ghost use Rattle.walk.specs.Walked.{DirectsKept, Ready, Walked, WalkedOver, rules_in};
 
 use crate::allowance::Allowance;
 use crate::row::NodeRow;
@@ -23,79 +24,83 @@ impl Walk {
         pins: usize,
         allowance: Allowance,
     ) -> Result<(), WalkFault>
-        ensures taken { IsOk result ↔ (length (rows_of self.old) ≡ tree.now.seed.now.nodes) }
+        ensures taken { IsOk result ↔ (length self.old.marks ≡ tree.now.seed.now.nodes) }
         ensures refused { OnErr result (self.new ≡ self.old) }
-        ensures walked { OnOk result (WalkedOver (rules_in allowance pins self.old) tree.now.seed.now self.new) }
-        ensures kept { DirectsKept (rows_of self.old) (rows_of self.new) }
+        ensures walked { OnOk result
+            (WalkedOver (rules_in allowance pins self.old.directs) tree.now.seed.now self.new.marks) }
+        ensures kept { self.new.directs ≡ self.old.directs }
     {
         if self.len() != tree.seed.nodes() {
             return Err(WalkFault);
         }
-        self.renew_all();
-        self.take_steps(tree, Rules { pins, allowance });
+        let rows = self.rows.as_mut_slice();
+        renew_all(rows);
+        take_steps(rows, tree, Rules { pins, allowance });
         Ok(())
     }
+}
 
-    /// Makes every row fresh; the direct distances stay.
-    fn renew_all(&mut self)
-        ensures { Renewed (rows_of self.old) (rows_of self.new) }
-    {
-        for (k, row) in self.rows.iter_mut().enumerate() {
-            *row = NodeRow::fresh(k, row.direct);
-        }
+/// Makes every row fresh; the direct distances stay.
+fn renew_all(rows: &mut [NodeRow])
+    ensures { Renewed rows.old rows.new }
+{
+    for (k, row) in rows.iter_mut().enumerate() {
+        *row = NodeRow::fresh(k, row.direct);
     }
+}
 
-    /// Takes the steps of the walk over a seed, from fresh rows.
-    fn take_steps(&mut self, tree: &SeedTree<'_>, rules: Rules)
-        requires { Ready tree.now.seed.now.nodes (rows_of self.old) }
-        ensures walked { WalkedOver (rules_by rules (rows_of self.old)) tree.now.seed.now self.new }
-        ensures kept { DirectsKept (rows_of self.old) (rows_of self.new) }
-    {
-        let seed = tree.seed;
-        let mut v = 0;
-        for step in 0..2 * seed.count() {
-            let row = self.rows[v];
-            match seed.neighbour(v, row.from, row.next) {
-                Some((u, l)) => {
-                    self.descend(v, u, l, rules);
-                    v = u;
-                }
-                None => {
-                    self.relax(v, row.from, row.from_length);
-                    v = row.from;
-                }
+/// Takes the steps of the walk over a seed, from fresh rows.
+fn take_steps(rows: &mut [NodeRow], tree: &SeedTree<'_>, rules: Rules)
+    requires ready { Ready tree.now.seed.now.nodes rows.old }
+    requires short { (k : ℕ) → directs rows.old k ≤ LONGEST }
+    ensures walked { Walked (rules_by rules rows.old) tree.now.seed.now.nodes
+        tree.now.seed.now.edges (marks rows.new) }
+    ensures kept { DirectsKept rows.old rows.new }
+{
+    let seed = tree.seed;
+    let mut v = 0;
+    for step in 0..2 * seed.count() {
+        let row = rows[v];
+        match seed.neighbour(v, row.from, row.next) {
+            Some((u, l)) => {
+                descend(rows, v, u, l, rules);
+                v = u;
+            }
+            None => {
+                relax(rows, v, row.from, row.from_length);
+                v = row.from;
             }
         }
     }
+}
 
-    /// The walk goes down from v to its next child u.
-    fn descend(&mut self, v: usize, u: usize, l: u64, rules: Rules)
-        requires near { v < length (rows_of self.old) }
-        requires far { u < length (rows_of self.old) }
-        requires apart { u ≢ v }
-        requires told { Low (slice_index_or (rows_of self.old) v idle).mark.est l }
-        requires room { Low (relax v u l (marks (rows_of self.old)) u).est 0 }
-        ensures { Gone rules.allowance.p rules.allowance.q rules.pins v u l
-            (rows_of self.old) (rows_of self.new) }
-    {
-        self.relax(v, u, l);
-        self.rows[u].enter(u, v, l, rules);
-        self.rows[v].next = u + 1;
-    }
+/// The walk goes down from v to its next child u.
+fn descend(rows: &mut [NodeRow], v: usize, u: usize, l: u64, rules: Rules)
+    requires near { v < length rows.old }
+    requires far { u < length rows.old }
+    requires apart { u ≢ v }
+    requires short { (k : ℕ) → directs rows.old k ≤ LONGEST }
+    requires told { Low (slice_index_or rows.old v idle).mark.est l }
+    requires room { Low (relax v u l (marks rows.old) u).est 0 }
+    ensures { Gone rules.allowance.p rules.allowance.q rules.pins v u l rows.old rows.new }
+{
+    relax(rows, v, u, l);
+    rows[u].enter(u, v, l, rules);
+    rows[v].next = u + 1;
+}
 
-    /// The node u relaxes the node v over their edge of length l.
-    fn relax(&mut self, u: usize, v: usize, l: u64)
-        requires near { u < length (rows_of self.old) }
-        requires far { v < length (rows_of self.old) }
-        requires room { Low (slice_index_or (rows_of self.old) u idle).mark.est l }
-        ensures after { marks (rows_of self.new) ≡ relax u v l (marks (rows_of self.old)) }
-        ensures places { Places (rows_of self.old) (rows_of self.new) }
-    {
-        let Some(e) = self.rows[u].mark.est else {
-            return;
-        };
-        let sum = e + l;
-        let row = &mut self.rows[v];
-        row.mark = row.mark.offered(u, l, sum);
-    }
+/// The node u relaxes the node v over their edge of length l.
+fn relax(rows: &mut [NodeRow], u: usize, v: usize, l: u64)
+    requires near { u < length rows.old }
+    requires far { v < length rows.old }
+    requires room { Low (slice_index_or rows.old u idle).mark.est l }
+    ensures after { marks rows.new ≡ relax u v l (marks rows.old) }
+    ensures places { Places rows.old rows.new }
+{
+    let Some(e) = rows[u].mark.est else {
+        return;
+    };
+    let sum = e + l;
+    let row = &mut rows[v];
+    row.mark = row.mark.offered(u, l, sum);
 }

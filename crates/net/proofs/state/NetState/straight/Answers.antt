@@ -17,8 +17,8 @@ returns-clause-built g c =
     let whole : length n.seed.edges + 1 ≡ n.seed.nodes = c.in-Some-as_tree.ensures.test.0 refl in
     let two : 2 ≤ n.pins = subst (λ (x : State). 2 ≤ x.pins) (sym c.self.view_is) c.in_ok-paired.ensures in
     let set : ratio_of n.allowance ≡ Some (a.p, a.q) = ap ratio_of c.in-Some.is in
-    let A : Seed → Type 0 = λ x. Answer g.S.Space c.args.space.now n.table (vec_items c.args.builder.now.broken) c.as_slice-spots.result.now a.p a.q n.pins x (vec_items c.straight-wire.new.self.broken) c.straight-wire.result c.straight-wire.new.tree in
-    let s = straightened g.S.Space c.args.space.now n.table (vec_items c.args.builder.now.broken) c.as_slice-spots.result.now (vec_items n.spots) a.p a.q n.pins n.seed (vec_items c.straight-wire.new.self.broken) c.straight-wire.result c.straight-wire.new.tree (subst A c.in-Some-as_tree.ensures.same c.straight-wire.ensures) c.as_slice-spots.ensures.value (whole, n.nodes) c.unwrap_or.result c.unwrap_or.ensures in
+    let A : Seed → Type 0 = λ x. Answer g.S.Space c.args.space.now n.table c.args.builder.now c.as_slice-spots.result.now a.p a.q n.pins x c.straight-wire.new.self c.straight-wire.result c.straight-wire.new.tree in
+    let s = straightened g.S.Space c.args.space.now n.table c.args.builder.now c.as_slice-spots.result.now (vec_items n.spots) a.p a.q n.pins n.seed c.straight-wire.new.self c.straight-wire.result c.straight-wire.new.tree (subst A c.in-Some-as_tree.ensures.same c.straight-wire.ensures) c.as_slice-spots.ensures.value (whole, n.nodes) c.unwrap_or.result c.unwrap_or.ensures in
     rw (← c.self.view_is) (
       a,
       (two, (λ e. unset a.p a.q (sym set ∙ e), (whole ∙ n.nodes, set))),

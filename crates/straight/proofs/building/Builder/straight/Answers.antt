@@ -1,9 +1,10 @@
 use Rattle.std.proofs.Common.{◌≡◌, true, is_ok, is_some, length, vec_items, sym, ap, ◌∙◌, arith}
+use Rattle.std.proofs.lemmas.List.{length-map}
+use Rattle.walk.specs.Marks.{marks_of}
 use Rattle.space.specs.Totals.{capped_distance}
-use Rattle.walk.specs.Tables.{rows_of as walkRows}
 use Rattle.space.specs.Spots.{spot_of}
 use Rattle.straight.proofs.Spaced.{laid_measures}
-use Rattle.straight.proofs.Whole.{on_ok, rows_counted, whole_falls, whole_straight}
+use Rattle.straight.proofs.Whole.{on_ok, whole_falls, whole_straight}
 use Rattle.straight.proofs.building.Builder.straight.Goals as goal
 
 pub lay-requires-clause-falling : goal.lay-requires-clause-falling
@@ -12,11 +13,12 @@ lay-requires-clause-falling g c =
     let spots = c.args.spots.now in
     let d = capped_distance g.S.Space c.args.space.now in
     let a = c.args.allowance in
-    let old = walkRows c.measure.new.walk in
+    let old = c.measure.new.walk in
+    let new = c.walk.new.self in
     let measured = c.in_ok-measure.ensures.rows in
     let went : is_ok c.walk.result ≡ true = sym c.ok.ensures.variant ∙ ap is_some c.in_ok-ok.was in
-    let size : seed.nodes ≡ length spots = sym (c.walk.ensures.taken.0 went) ∙ rows_counted (d (spot_of spots 0)) spots old measured in
-    whole_falls d spots a.p a.q c.args.pins seed.nodes seed.edges old (walkRows c.walk.new.self) (omega (arith, a.within.1)) seed.sound size measured (on_ok c.walk.result went c.walk.ensures.walked) c.walk.ensures.kept
+    let size : seed.nodes ≡ length spots = sym (c.walk.ensures.taken.0 went) ∙ sym old.matched ∙ ap length measured ∙ length-map spots (d (spot_of spots 0)) in
+    whole_falls d spots a.p a.q c.args.pins seed.nodes seed.edges old.directs new.directs (marks_of new.marks) (omega (arith, a.within.1)) seed.sound size measured (on_ok c.walk.result went c.walk.ensures.walked) c.walk.ensures.kept
 
 pub returns : goal.returns
 returns g c =
@@ -25,13 +27,14 @@ returns g c =
     let s = c.args.space.now in
     let d = capped_distance g.S.Space s in
     let a = c.args.allowance in
-    let old = walkRows c.measure.new.walk in
+    let old = c.measure.new.walk in
+    let new = c.walk.new.self in
     let found = vec_items c.lay.new.broken in
     let built = c.lay.new.tree.rows in
     let measured = c.in_ok-measure.ensures.rows in
     let went : is_ok c.walk.result ≡ true = sym c.ok.ensures.variant ∙ ap is_some c.in_ok-ok.was in
-    let size : seed.nodes ≡ length spots = sym (c.walk.ensures.taken.0 went) ∙ rows_counted (d (spot_of spots 0)) spots old measured in
-    let done = whole_straight d spots a.p a.q c.args.pins seed.nodes seed.edges old (walkRows c.walk.new.self) (omega (arith, a.within.1)) seed.sound size measured (on_ok c.walk.result went c.walk.ensures.walked) c.walk.ensures.kept found c.wire.result built c.lay.ensures.rows c.lay.ensures.found c.wire.ensures in (
+    let size : seed.nodes ≡ length spots = sym (c.walk.ensures.taken.0 went) ∙ sym old.matched ∙ ap length measured ∙ length-map spots (d (spot_of spots 0)) in
+    let done = whole_straight d spots a.p a.q c.args.pins seed.nodes seed.edges old.directs new.directs (marks_of new.marks) (omega (arith, a.within.1)) seed.sound size measured (on_ok c.walk.result went c.walk.ensures.walked) c.walk.ensures.kept found c.wire.result built c.lay.ensures.rows c.lay.ensures.found c.wire.ensures in (
       (c.args.seed.now.whole, size),
       done,
       λ laid. laid_measures g.S.Space s (g.met.S.Space.metric s) spots seed.nodes seed.edges seed.sound size laid a.p a.q c.args.pins found c.wire.result built done,

@@ -1,26 +1,28 @@
-use Rattle.std.proofs.Common.{ℕ, ◌+◌, ◌*◌, ◌<◌, vec_items, sym, subst₂, arith}
+use Rattle.std.proofs.Common.{ℕ, ◌+◌, ◌*◌, ◌<◌, List, sym, subst₂, arith}
 use Rattle.forest.specs.Rooted.{size_of}
 use Rattle.forest.proofs.Accepted.{accepted}
 use Rattle.forest.proofs.Rooting.{planted}
-use Rattle.walk.specs.declared.table.Walk.{Walk}
+use Rattle.walk.specs.declared.row.NodeRow.{NodeRow}
 use Rattle.walk.proofs.Loop.{Looping, loop_start, loop_needs, loop_rise, loop_down, loop_up, loop_end, loop_steps}
-use Rattle.walk.proofs.table.Walk.take_steps.Goals as goal
-use Rattle.walk.proofs.table.Walk.take_steps.Goals.{in-Some, in-None}
+use Rattle.walk.proofs.walking.take_steps.Goals as goal
+use Rattle.walk.proofs.walking.take_steps.Goals.{in-Some, in-None}
 
 pub loop-step-init : goal.loop-step-init
 loop-step-init c =
     let s = c.args.tree.now.seed.now in
     let R = c.args.rules in
-    loop_start R.allowance.p R.allowance.q R.pins s.nodes s.edges c.args.self.now.rows.items s.sound s.few
-    (planted (accepted s.nodes s.edges s.sound) c.args.tree.now.whole) c.requires
+    loop_start R.allowance.p R.allowance.q R.pins s.nodes s.edges c.args.rows.now s.sound s.few
+    (planted (accepted s.nodes s.edges s.sound) c.args.tree.now.whole) c.requires.ready
 
 pub descend-requires : goal.descend-requires
 descend-requires c =
-    let d = loop_needs c.args.rules.allowance.within.1 c.args.tree.now.seed.now.sound c.loop-step.invariant c.index-row.result.now c.index-row.ensures c.in-Some.ensures.least in
+    let L = c.loop-step.invariant in
+    let d = loop_needs c.args.rules.allowance.within.1 c.args.tree.now.seed.now.sound L c.in-Some.ensures.least in
     record {
-      near = omega (arith, c.loop-step.invariant.place.below, c.loop-step.invariant.count);
+      near = omega (arith, L.place.below, L.count);
       far = d.far;
       apart = d.apart;
+      short = λ k. omega (arith, L.direct k, c.requires.short k);
       told = d.told;
       room = d.room;
     }
@@ -30,7 +32,7 @@ relax-requires c =
     let s = c.args.tree.now.seed.now in
     let L = c.loop-step.invariant in
     let total = loop_steps s.nodes s.edges L.planted c.count-step-end.result c.count-step-end.ensures c.args.tree.now.whole in
-    let r = loop_rise c.args.rules.allowance.within.1 s.sound L c.index-row.result.now c.index-row.ensures c.in-None.ensures.least (omega (arith, total, c.loop-step-test.true)) in
+    let r = loop_rise c.args.rules.allowance.within.1 s.sound L c.in-None.ensures.least (omega (arith, total, c.loop-step-test.true)) in
     record { near = omega (arith, L.place.below, L.count); far = r.far; room = r.told }
 
 pub loop-step-preserved : goal.loop-step-preserved
@@ -40,15 +42,15 @@ loop-step-preserved c =
     let L = c.loop-step.invariant in
     let total = loop_steps s.nodes s.edges L.planted c.count-step-end.result c.count-step-end.ensures c.args.tree.now.whole in
     let early : c.loop-step.step < 2 * size_of L.planted.forest = omega (arith, total, c.loop-step-test.true) in
-    let P : Walk → ℕ → Type 0 =
-    λ t x. Looping R.allowance.p R.allowance.q R.pins s.nodes s.edges c.args.self.now.rows.items (vec_items t.rows) x (c.loop-step.step + 1) in
+    let P : List NodeRow → ℕ → Type 0 =
+    λ rows x. Looping R.allowance.p R.allowance.q R.pins s.nodes s.edges c.args.rows.now rows x (c.loop-step.step + 1) in
     elim c.match-neighbour.branch [
       | in-Some w ↦
-          subst₂ P (sym w.self-is) (sym w.v-is)
-          (loop_down R.allowance.within.1 s.sound L c.index-row.result.now c.index-row.ensures w.in-Some.ensures.least w.descend.new.self.rows.items w.descend.ensures)
+          subst₂ P (sym w.rows-is) (sym w.v-is)
+          (loop_down R.allowance.within.1 s.sound L w.in-Some.ensures.least w.descend.new.rows w.descend.ensures)
       | in-None w ↦
-          subst₂ P (sym w.self-is) (sym w.v-is)
-          (loop_up R.allowance.within.1 s.sound L c.index-row.result.now c.index-row.ensures w.in-None.ensures.least early w.relax.new.self.rows.items w.relax.ensures.after w.relax.ensures.places)
+          subst₂ P (sym w.rows-is) (sym w.v-is)
+          (loop_up R.allowance.within.1 s.sound L w.in-None.ensures.least early w.relax.new.rows w.relax.ensures.after w.relax.ensures.places)
     ]
 
 pub returns-clause-walked : goal.returns-clause-walked

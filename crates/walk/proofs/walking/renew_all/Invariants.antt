@@ -1,6 +1,6 @@
 use Rattle.walk.proofs.Fresh.{Renewing}
-use Rattle.walk.proofs.table.Walk.renew_all.Given as goal
+use Rattle.walk.proofs.walking.renew_all.Given as goal
 
 -- the rows passed are fresh, and the others are as they were
 abbrev pub invariant-loop-k : goal.invariant-loop-k
-invariant-loop-k l = Renewing l.initial.row-items l.row-items l.k
+invariant-loop-k l = Renewing l.initial.rows l.rows l.k
