@@ -4,8 +4,8 @@ ghost use Rattle.built_spaces.specs.Grid.{plane_meets, plane_metric};
 ghost use Rattle.built_spaces.specs.Shapes.{grid_between, grid_meeting, in_range};
 
 use crate::spots::at;
-use joined::Joiner;
 use built_spaces::Plane;
+use joined::Joiner;
 use space::{Joining, Space, Spot};
 use std::alloc::Global;
 use std::cell::Cell;

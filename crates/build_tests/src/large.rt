@@ -1,7 +1,7 @@
 // A net of 256 pins from a fixed sequence, built and shortened until no move is left.
 use crate::spots::at;
-use net::Net;
 use built_spaces::Plane;
+use net::Net;
 use space::{Joining, Space};
 use std::process::Abort;
 use std::test::Fail;

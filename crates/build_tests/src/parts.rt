@@ -1,8 +1,8 @@
 // The calls that build and join trees, each on a tree of its own.
 use crate::spots::at;
+use built_spaces::Plane;
 use joined::Joiner;
 use seed::Seed;
-use built_spaces::Plane;
 use std::process::Abort;
 use std::test::Fail;
 use straight::Builder;

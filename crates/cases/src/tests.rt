@@ -1,7 +1,7 @@
 // The calls behind the rows of the table, made.
 use super::worked_cases;
-use seed::Seed;
 use built_spaces::{Air, Lift, Plane};
+use seed::Seed;
 use space::{Joining, Space, Spot, spot_of};
 use span::Spanner;
 use std::process::Abort;

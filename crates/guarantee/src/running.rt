@@ -18,14 +18,10 @@ pub fn run<S: Space, C: NetCall<S>>(
     answers: &mut [Result<u64, Fault>],
 ) -> usize
     ensures count { result ≡ min (length calls.now) (length answers.old) }
-    ensures kept {
-        CallsMade (C.geometry net.old.space) net.old.state (map C.among (take result calls.now)) (take result answers.new)
-        net.new.state
-    }
-    ensures rest {
-        (k : ℕ) (d : Answered ℕ Refusal) → result ≤ k →
-        slice_index_or answers.new k d ≡ slice_index_or answers.old k d
-    }
+    ensures kept { CallsMade (C.geometry net.old.space) net.old.state (map C.among (take result calls.now)) (take result answers.new)
+        net.new.state }
+    ensures rest { (k : ℕ) (d : Answered ℕ Refusal) → result ≤ k →
+        slice_index_or answers.new k d ≡ slice_index_or answers.old k d }
     ensures stays { net.new.space ≡ net.old.space }
 {
     let count = calls.len().min(answers.len());
@@ -55,24 +51,16 @@ pub fn guarantee<W: Space, J: Joining>(
     joining_answers: &mut [Result<u64, Fault>],
 ) -> CallCounts
     ensures wiring_count { result.wiring ≡ min (length calls.now) (length answers.old) }
-    ensures wiring {
-        CallsMade (wiringGeometry W.Space wiring.old.space) wiring.old.state (wired (take result.wiring calls.now))
-        (take result.wiring answers.new) wiring.new.state
-    }
-    ensures wiring_rest {
-        (k : ℕ) (d : Answered ℕ Refusal) → result.wiring ≤ k →
-        slice_index_or answers.new k d ≡ slice_index_or answers.old k d
-    }
+    ensures wiring { CallsMade (wiringGeometry W.Space wiring.old.space) wiring.old.state (wired (take result.wiring calls.now))
+        (take result.wiring answers.new) wiring.new.state }
+    ensures wiring_rest { (k : ℕ) (d : Answered ℕ Refusal) → result.wiring ≤ k →
+        slice_index_or answers.new k d ≡ slice_index_or answers.old k d }
     ensures wiring_stays { wiring.new.space ≡ wiring.old.space }
     ensures joining_count { result.joining ≡ min (length joining_calls.now) (length joining_answers.old) }
-    ensures joining {
-        CallsMade (joiningGeometry J.Space J.Joining.own joining.old.space) joining.old.state
-        (take result.joining joining_calls.now) (take result.joining joining_answers.new) joining.new.state
-    }
-    ensures joining_rest {
-        (k : ℕ) (d : Answered ℕ Refusal) → result.joining ≤ k →
-        slice_index_or joining_answers.new k d ≡ slice_index_or joining_answers.old k d
-    }
+    ensures joining { CallsMade (joiningGeometry J.Space J.Joining.own joining.old.space) joining.old.state
+        (take result.joining joining_calls.now) (take result.joining joining_answers.new) joining.new.state }
+    ensures joining_rest { (k : ℕ) (d : Answered ℕ Refusal) → result.joining ≤ k →
+        slice_index_or joining_answers.new k d ≡ slice_index_or joining_answers.old k d }
     ensures joining_stays { joining.new.space ≡ joining.old.space }
 {
     let first = run(wiring, calls, answers);

@@ -44,9 +44,7 @@ fn answer<S: Space, C: JobCall<S>>(
     net: &mut Net<S>,
     asked: Result<Request, TextFault>,
 ) -> Result<Reply, TextFault>
-    ensures gives {
-        NetFollows (C.NetCall.geometry net.old.space) C.JobCall.joins asked net.old.state net.new.state result
-    }
+    ensures gives { NetFollows (C.NetCall.geometry net.old.space) C.JobCall.joins asked net.old.state net.new.state result }
     ensures stays { net.new.space ≡ net.old.space }
 {
     match asked? {

@@ -12,11 +12,11 @@ use crate::answering::{Answerer, NoNet, OverNet};
 use crate::kind::JobCall;
 use crate::places::put;
 use crate::running::{Outcome, run_lines};
+use built_spaces::{Air, Lift, Plane};
 use net::Net;
 use net_laws::{Call, JoinCall};
 use reply::{Reply, last_line};
 use request::{Request, TextFault, Word, next_line, read};
-use built_spaces::{Air, Lift, Plane};
 use space::Space;
 use std::alloc::{AllocError, Global};
 use std::marker::PhantomData;
@@ -54,10 +54,8 @@ fn run_over<S: Space + Drop, C: JobCall<S>>(
     rest: &[u8],
     out: &mut [u8],
 ) -> Result<Outcome, AllocError>
-    ensures begun {
-        IfOk result (λ o.
-        Begun (over (C.NetCall.geometry space) C.JobCall.joins fresh) (Ok (Number 0)) rest.now out.old out.new o)
-    }
+    ensures begun { IfOk result (λ o.
+        Begun (over (C.NetCall.geometry space) C.JobCall.joins fresh) (Ok (Number 0)) rest.now out.old out.new o) }
     ensures err { OnErr result (out.new ≡ out.old) }
 {
     let net = Net::new(heap, space)?;
@@ -76,10 +74,8 @@ fn run_in(
     rest: &[u8],
     out: &mut [u8],
 ) -> Result<Outcome, AllocError>
-    ensures begun {
-        IfOk result (λ o.
-        Begun (over (geometry_of word price) (joins_of word) fresh) (Ok (Number 0)) rest.now out.old out.new o)
-    }
+    ensures begun { IfOk result (λ o.
+        Begun (over (geometry_of word price) (joins_of word) fresh) (Ok (Number 0)) rest.now out.old out.new o) }
     ensures err { OnErr result (out.new ≡ out.old) }
 {
     match (word, price) {

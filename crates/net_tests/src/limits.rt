@@ -1,7 +1,7 @@
 // The limits, met and passed by one.
 use crate::asking::{at, check_refused, print_of};
-use net::Net;
 use built_spaces::Plane;
+use net::Net;
 use space::Joining;
 use std::process::Abort;
 use std::test::Fail;

@@ -1,9 +1,9 @@
 // Lists of calls over several spaces, with calls out of turn, repeated calls and refused ones among them.
 use crate::asking::{Away, NONE, Said, check_answers};
+use built_spaces::{Air, Lift, Plane};
 use guarantee::{guarantee, run};
 use net::Net;
 use net_laws::{Call, JoinCall};
-use built_spaces::{Air, Lift, Plane};
 use space::{Joining, Space, Spot};
 use space_tests::line::Line;
 use std::process::Abort;

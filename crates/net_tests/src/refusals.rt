@@ -1,7 +1,7 @@
 // Refusals by the calls that give them; the net stays as it was. `lists` has 1, 5 and 8 to 12, `limits` 3, 7 and 15.
 use crate::asking::{at, check_refused, print_of};
-use net::Net;
 use built_spaces::Plane;
+use net::Net;
 use space::Joining;
 use std::process::Abort;
 use std::test::Fail;

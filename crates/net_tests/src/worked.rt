@@ -1,10 +1,10 @@
 // The worked nets, as calls.
 use crate::asking::{Away, NONE, Said, check_answers};
 use crate::refusals::check_standing;
+use built_spaces::{Lift, Plane};
 use guarantee::run;
 use net::Net;
 use net_laws::{Call, JoinCall};
-use built_spaces::{Lift, Plane};
 use space::{Space, Spot};
 use std::process::Abort;
 use std::test::Fail;

@@ -38,9 +38,7 @@ pub(crate) fn read_number(text: &[u8]) -> Result<u16, Unread>
 
 /// The numbers in fields 2 and 3.
 pub(crate) fn read_pair(a: &[u8], b: &[u8]) -> Result<(u16, u16), Unread>
-    ensures ok {
-        IfOk result (λ r. (r.0 < 2 ^ 16) × (r.1 < 2 ^ 16) × (a.now ≡ decimal r.0) × (b.now ≡ decimal r.1))
-    }
+    ensures ok { IfOk result (λ r. (r.0 < 2 ^ 16) × (r.1 < 2 ^ 16) × (a.now ≡ decimal r.0) × (b.now ≡ decimal r.1)) }
     ensures err { IfErr result (λ e. FirstBad (small ∷ small ∷ []) (a.now ∷ b.now ∷ []) 2 e.0) }
 {
     let Some(a) = read_u16(a) else {
@@ -55,10 +53,8 @@ pub(crate) fn read_pair(a: &[u8], b: &[u8]) -> Result<(u16, u16), Unread>
 /// The spot in fields 2, 3 and 4.
 pub(crate) fn read_spot(x: &[u8], y: &[u8], level: &[u8]) -> Result<Spot, Unread>
     ensures ok { IfOk result (λ z. RangedSpot z × (x.now ∷ y.now ∷ level.now ∷ [] ≡ spot_fields z)) }
-    ensures err {
-        IfErr result (λ e.
-        FirstBad (coordinate ∷ coordinate ∷ coordinate ∷ []) (x.now ∷ y.now ∷ level.now ∷ []) 2 e.0)
-    }
+    ensures err { IfErr result (λ e.
+        FirstBad (coordinate ∷ coordinate ∷ coordinate ∷ []) (x.now ∷ y.now ∷ level.now ∷ []) 2 e.0) }
 {
     let Some(x) = read_i32(x) else {
         return Err(Unread(2));
