@@ -15,10 +15,11 @@ pub struct Spanner {
 
 impl Spanner {
     ghost use Rattle.span.specs.Measured.{GrowingBy};
+    ghost use Rattle.span.specs.Spanners.{links_of};
 
     /// Room for the links of as many pins as a seed can have nodes, and no links. All memory that it will ever use is reserved here.
     pub fn new(heap: Global) -> Result<Spanner, AllocError>
-        ensures { IfOk result (λ s. s.links.outside.items ≡ []) }
+        ensures { IfOk result (λ s. links_of s ≡ []) }
     {
         let links = Links::new(heap)?;
         Ok(Spanner { links })
