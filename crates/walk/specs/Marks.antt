@@ -72,6 +72,10 @@ entered_by sink p q direct None m = m
 entered_by sink p q direct (Some e) m =
     cond (sink && nat_lt ((p + q) * direct) (q * e)) (laws.hung m.parent m.edge direct true) m
 
+-- The row with the mark m, and the rest as it was.
+abbrev pub placed : Mark → NodeRow → NodeRow
+placed m r = record { mark = m; direct = r.direct; from = r.from; from_length = r.from_length; next = r.next }
+
 -- The row of a node that was entered from the node v, over an edge of length l: none of its children was tried.
 abbrev pub opened : Mark → (direct v l : ℕ) → NodeRow
 opened m direct v l = record { mark = m; direct = direct; from = v; from_length = l; next = 0 }

@@ -2,7 +2,7 @@ ghost use Rattle.std.specs.Prelude.{◌≡◌, ◌≤◌, ◌&&◌, nat_lt};
 ghost use Rattle.space.specs.declared.TheConstants.{LONGEST};
 ghost use Rattle.walk_laws.specs.Walk.{offered};
 ghost use Rattle.walk.specs.Limits.{Low};
-ghost use Rattle.walk.specs.Marks.{mark_of, entered_by, fresh_mark, fresh_row, opened};
+ghost use Rattle.walk.specs.Marks.{mark_of, entered_by, fresh_mark, fresh_row, opened, placed};
 
 use crate::rules::Rules;
 
@@ -90,6 +90,14 @@ impl NodeRow {
             from_length: 0,
             next: 0,
         }
+    }
+
+    /// The node u offers the row's node the estimate e, over an edge of length l.
+    pub(crate) fn offer(&mut self, u: usize, l: u64, e: u64)
+        ensures mark { mark_of self.new.mark ≡ offered u l e self.old.mark.est (mark_of self.old.mark) }
+        ensures place { self.new ≡ placed self.new.mark self.old }
+    {
+        self.mark = self.mark.offered(u, l, e);
     }
 
     /// The walk enters the row's node v from the node `from`, over an edge of length `from_length`.

@@ -101,6 +101,5 @@ fn relax(rows: &mut [NodeRow], u: usize, v: usize, l: u64)
         return;
     };
     let sum = e + l;
-    let row = &mut rows[v];
-    row.mark = row.mark.offered(u, l, sum);
+    rows[v].offer(u, l, sum);
 }
