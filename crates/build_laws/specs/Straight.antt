@@ -1,5 +1,6 @@
 -- The straight tree of a finished walk: every breakpoint hangs on the driver, and every other node on its parent from the walk. Assumes nothing.
-use Rattle.std.specs.Prelude.{◌≡◌, ℕ, zero, suc, ◌+◌, ◌*◌, ◌<◌, ◌≤◌, true, cond, ◌||◌, List, [], ◌∷◌, ◌++◌, ◌==◌}
+use Rattle.std.specs.Prelude.{◌≡◌, ℕ, zero, suc, ◌+◌, ◌*◌, ◌<◌, ◌≤◌, true, cond, ◌||◌, List, [], ◌∷◌, ◌++◌, map, ◌==◌, slice_index}
+use Rattle.space.specs.Spots.{spot_of}
 use Rattle.space.specs.declared.spot.Spot.{Spot}
 use Rattle.forest.specs.Rooted.{Forest}
 use Rattle.forest.specs.Rooted as rooted
@@ -7,6 +8,10 @@ use Rattle.walk_laws.specs.Walk.{Rules, Marks}
 use Rattle.walk_laws.specs.Promise.{Branch, WalkGuarantee, Sink, RootedTree, Spares, Triangle}
 use Rattle.tree_laws.specs.declared.Row.{Row}
 use Rattle.tree_laws.specs.Trees.{RowTree, row_length, path_length, up, wire_of}
+
+-- The allowance, which nodes are pins, and the distance of each node from the driver.
+abbrev pub net_rules : (Spot → Spot → ℕ) → List Spot → (pins p q : ℕ) → Rules
+net_rules d spots pins p q = record { p = p; q = q; pins = pins; direct = λ v. slice_index (map (d (spot_of spots 0)) spots) v }
 
 -- The row of the node v: the driver's own, a breakpoint's on the driver at its direct distance, or one on the parent from the walk.
 abbrev pub straight_row : Rules → Marks → (ℕ → Spot) → ℕ → Row

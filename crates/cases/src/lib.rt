@@ -4,6 +4,8 @@
 
 ghost use Rattle.std.specs.Prelude.{◌≡◌, length};
 ghost use Rattle.std.specs.List.{AllByRecursion};
+ghost use Rattle.space.specs.declared.TheConstants.{LONGEST};
+ghost use Rattle.seed.specs.declared.store.TheConstants.{NODES};
 ghost use Rattle.cases.specs.Table.{Holds, table};
 
 #[cfg(test)]
@@ -13,6 +15,7 @@ mod tests;
 pub fn worked_cases() -> usize
     ensures every { AllByRecursion Holds table }
     ensures count { result ≡ length table }
+    ensures limits { (LONGEST ≡ 100000000) × (NODES ≡ 512) }
 {
     13
 }

@@ -1,7 +1,7 @@
 // Lists of calls, made on a net.
-ghost use Rattle.std.specs.Prelude.{◌≡◌, ℕ, ◌≤◌, min, map, length, take, Result as Answered, slice_index_or};
+ghost use Rattle.std.specs.Prelude.{◌≡◌, ℕ, ◌≤◌, min, map, length, take, Result as SpecResult, slice_index_or};
 ghost use Rattle.net_laws.specs.Spaces.{joining as joiningGeometry, wiring as wiringGeometry};
-ghost use Rattle.net_laws.specs.declared.fault.Fault.{Fault as Refusal};
+ghost use Rattle.net_laws.specs.declared.fault.Fault.{Fault as NetFault};
 ghost use Rattle.net_laws.specs.Guarantee.{RunsKeep};
 ghost use Rattle.guarantee.specs.CallsMade.{CallsMade, wired};
 
@@ -20,7 +20,7 @@ pub fn run<S: Space, C: NetCall<S>>(
     ensures count { result ≡ min (length calls.now) (length answers.old) }
     ensures kept { CallsMade (C.geometry net.old.space) net.old.state (map C.among (take result calls.now)) (take result answers.new)
         net.new.state }
-    ensures rest { (k : ℕ) (d : Answered ℕ Refusal) → result ≤ k →
+    ensures rest { (k : ℕ) (d : SpecResult ℕ NetFault) → result ≤ k →
         slice_index_or answers.new k d ≡ slice_index_or answers.old k d }
     ensures stays { net.new.space ≡ net.old.space }
 {
@@ -53,13 +53,13 @@ pub fn guarantee<W: Space, J: Joining>(
     ensures wiring_count { result.wiring ≡ min (length calls.now) (length answers.old) }
     ensures wiring { CallsMade (wiringGeometry W.Space wiring.old.space) wiring.old.state (wired (take result.wiring calls.now))
         (take result.wiring answers.new) wiring.new.state }
-    ensures wiring_rest { (k : ℕ) (d : Answered ℕ Refusal) → result.wiring ≤ k →
+    ensures wiring_rest { (k : ℕ) (d : SpecResult ℕ NetFault) → result.wiring ≤ k →
         slice_index_or answers.new k d ≡ slice_index_or answers.old k d }
     ensures wiring_stays { wiring.new.space ≡ wiring.old.space }
     ensures joining_count { result.joining ≡ min (length joining_calls.now) (length joining_answers.old) }
     ensures joining { CallsMade (joiningGeometry J.Space J.Joining.own joining.old.space) joining.old.state
         (take result.joining joining_calls.now) (take result.joining joining_answers.new) joining.new.state }
-    ensures joining_rest { (k : ℕ) (d : Answered ℕ Refusal) → result.joining ≤ k →
+    ensures joining_rest { (k : ℕ) (d : SpecResult ℕ NetFault) → result.joining ≤ k →
         slice_index_or joining_answers.new k d ≡ slice_index_or joining_answers.old k d }
     ensures joining_stays { joining.new.space ≡ joining.old.space }
 {

@@ -45,7 +45,7 @@ ReadyAnswer n =
 pub record Straightens (d : Spot → Spot → ℕ) (a : Allowance) (n : State) (listed : List ℕ) (w : ℕ) (m : State) : Type 0 where
   pub rows : List Row
   pub straight : Straightened d n.spots a.p a.q n.pins (length n.spots) n.edges listed w rows
-  pub joinable : Joinable rows listed
+  pub total_joining : Joinable rows listed
   pub stands : m ≡ with_tree n rows
 
 -- Asked to build the straight tree, n answers r and is m then; `listed` are the breakpoints that stand listed.
@@ -62,7 +62,7 @@ fault_of Full = TooManyRows
 pub record JoinableIn (n : State) (members : List ℕ) : Type 0 where
   pub rows : List Row
   pub stands : Stands n rows
-  pub joinable : Joinable rows members
+  pub total_joining : Joinable rows members
 
 -- The members were joined pair after pair: the tree of m came of that of n, and its wire is w.
 pub record JoinsIn (d : Spot → Spot → ℕ) (j : Spot → Spot → Spot → Spot) (n : State) (members : List ℕ) (w : ℕ) (m : State) : Type 0 where
@@ -74,8 +74,8 @@ pub record JoinsIn (d : Spot → Spot → ℕ) (j : Spot → Spot → Spot → S
   pub stands : m ≡ with_tree n after
 
 -- What a wiring space and a joining space answer, made total.
-abbrev pub measured : {X : Type 0} → Ghosts X → X → Geometry
-measured G s = made_total (wiring G s)
+abbrev pub total_wiring : {X : Type 0} → Ghosts X → X → Geometry
+total_wiring G s = made_total (wiring G s)
 
-abbrev pub joinable : {X : Type 0} → Ghosts X → JoinGhosts X → X → Geometry
-joinable G J s = made_total (joining G J s)
+abbrev pub total_joining : {X : Type 0} → Ghosts X → JoinGhosts X → X → Geometry
+total_joining G J s = made_total (joining G J s)

@@ -1,9 +1,10 @@
 ghost use Rattle.std.specs.Prelude.{◌≡◌, ◌<◌, true, is_err, is_ok, IfOk, Ok, Some};
-ghost use Rattle.net.specs.NetValue.{Answered, Bounded, JoinAnswered, JoinBounded, JoinSpared, NoLonger, Spared};
+ghost use Rattle.net.specs.NetValue.{Answered, JoinAnswered};
 ghost use Rattle.net_laws.specs.Answers.{AllowAnswer};
 ghost use Rattle.net_laws.specs.Readings.{PathAnswer, RowAnswer, RowsAnswer, WorstAnswer, figure_of};
 ghost use Rattle.net_laws.specs.Sinks.{FiguredSinkAt};
-ghost use Rattle.net_laws.specs.Spaces.{wiring};
+ghost use Rattle.net_laws.specs.Builds.{Bounds, EdgeForEdge, NoMoreThanStraight};
+ghost use Rattle.net_laws.specs.Spaces.{joining, wiring};
 ghost use Rattle.net_laws.specs.States.{fresh};
 ghost use Rattle.net_laws.specs.Worsts.{worst_before};
 ghost use Rattle.net_laws.specs.declared.call.Call.TheVariants.{Edge as EdgeCall, Hook as HookCall, Pin as PinCall, Span as SpanCall, Steiner as SteinerCall, Straight as StraightCall, Unseed as UnseedCall};
@@ -135,8 +136,10 @@ impl<S: Space> Net<S> {
     /// than two pins (6), no allowance is set (11), or the edges are not one fewer than the nodes (12).
     pub fn straight(&mut self) -> Result<u64, Fault>
         ensures answer { Answered S.Space self.old self.new StraightCall result }
-        ensures bounds { is_ok result ≡ true → Bounded S.Space self.old self.new }
-        ensures spared { is_ok result ≡ true → Spared S.Space self.old self.new }
+        ensures bounds { is_ok result ≡ true
+            → Bounds (wiring S.Space self.old.space) self.old.state self.new.state }
+        ensures spared { is_ok result ≡ true
+            → EdgeForEdge (wiring S.Space self.old.space) self.old.state self.new.state }
         ensures unchanged { is_err result ≡ true → self.new ≡ self.old }
         ensures stays { self.new.space ≡ self.old.space }
     {
@@ -221,9 +224,12 @@ impl<S: Joining> Net<S> {
     /// as `straight` is (6, 11, 12).
     pub fn joined(&mut self) -> Result<u64, Fault>
         ensures answer { JoinAnswered S.Space S.Joining.own self.old self.new JoinedCall result }
-        ensures bounds { is_ok result ≡ true → JoinBounded S.Space S.Joining.own self.old self.new }
-        ensures spared { is_ok result ≡ true → JoinSpared S.Space S.Joining.own self.old self.new }
-        ensures shorter { is_ok result ≡ true → NoLonger S.Space S.Joining.own self.old self.new }
+        ensures bounds { is_ok result ≡ true
+            → Bounds (joining S.Space S.Joining.own self.old.space) self.old.state self.new.state }
+        ensures spared { is_ok result ≡ true
+            → EdgeForEdge (joining S.Space S.Joining.own self.old.space) self.old.state self.new.state }
+        ensures shorter { is_ok result ≡ true
+            → NoMoreThanStraight (joining S.Space S.Joining.own self.old.space) self.old.state self.new.state }
         ensures unchanged { is_err result ≡ true → self.new ≡ self.old }
         ensures stays { self.new.space ≡ self.old.space }
     {

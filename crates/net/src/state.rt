@@ -5,7 +5,7 @@ ghost use Rattle.net.specs.declared.state.TheConstants.{PINS, POINTS};
 ghost use Rattle.net.specs.Held.{Checked, JoinableIn, JoinsIn, StraightBuilt, fault_of};
 ghost use Rattle.net_laws.specs.Answers.{EdgeAnswer, HookAnswer, JoinedAnswer, PinAnswer, ShareAnswer, SteinerAnswer};
 ghost use Rattle.net_laws.specs.States.{fresh, unseeded, with_allowance, with_edge, with_pin, with_point, with_seed};
-ghost use Rattle.net.specs.Held.{joinable, measured};
+ghost use Rattle.net.specs.Held.{total_joining, total_wiring};
 ghost use Rattle.net_laws.specs.declared.fault.Fault.TheVariants.{NoTree, TooFewPins};
 ghost use Rattle.space.specs.Totals.{meet_or_start, capped_distance};
 ghost use Rattle.space.specs.declared.TheConstants.{LONGEST};
@@ -125,7 +125,7 @@ impl NetState {
 
     /// Adds a pin, where the space admits it and it is apart from the others.
     pub(crate) fn pin<S: Space>(&mut self, space: &S, spot: Spot) -> Result<usize, Fault>
-        ensures answer { PinAnswer (measured S.Space space.now) self.old self.new spot result }
+        ensures answer { PinAnswer (total_wiring S.Space space.now) self.old self.new spot result }
         ensures unchanged { is_err result ≡ true → self.new ≡ self.old }
     {
         if space.widest() > LONGEST {
@@ -166,7 +166,7 @@ impl NetState {
 
     /// Adds a Steiner point, where the space admits it.
     pub(crate) fn steiner<S: Space>(&mut self, space: &S, spot: Spot) -> Result<usize, Fault>
-        ensures answer { SteinerAnswer (measured S.Space space.now) self.old self.new spot result }
+        ensures answer { SteinerAnswer (total_wiring S.Space space.now) self.old self.new spot result }
         ensures unchanged { is_err result ≡ true → self.new ≡ self.old }
     {
         self.paired()?;
@@ -193,7 +193,7 @@ impl NetState {
 
     /// Adds an edge between two nodes that no path of edges joins, and answers its length.
     pub(crate) fn edge<S: Space>(&mut self, space: &S, a: usize, b: usize) -> Result<u64, Fault>
-        ensures answer { EdgeAnswer (measured S.Space space.now) self.old self.new a b result }
+        ensures answer { EdgeAnswer (total_wiring S.Space space.now) self.old self.new a b result }
         ensures unchanged { is_err result ≡ true → self.new ≡ self.old }
     {
         self.paired()?;
@@ -289,7 +289,7 @@ impl NetState {
         builder: &mut Builder,
         joiner: &mut Joiner,
     ) -> Result<u64, Fault>
-        ensures answer { JoinedAnswer (joinable S.Space S.Joining.own space.now) self.old self.new result }
+        ensures answer { JoinedAnswer (total_joining S.Space S.Joining.own space.now) self.old self.new result }
         ensures unchanged { is_err result ≡ true → self.new ≡ self.old }
     {
         self.straight(space, builder)?;
@@ -298,7 +298,7 @@ impl NetState {
 
     /// Makes the best hook move of the tree and answers what it saves.
     pub(crate) fn hook<S: Space>(&mut self, space: &S) -> Result<u64, Fault>
-        ensures answer { HookAnswer (measured S.Space space.now) self.old self.new result }
+        ensures answer { HookAnswer (total_wiring S.Space space.now) self.old self.new result }
         ensures unchanged { is_err result ≡ true → self.new ≡ self.old }
     {
         if !self.stands {
@@ -310,7 +310,7 @@ impl NetState {
 
     /// Makes the best share move of the tree and answers what it saves.
     pub(crate) fn share<S: Joining>(&mut self, space: &S) -> Result<u64, Fault>
-        ensures answer { ShareAnswer (joinable S.Space S.Joining.own space.now) self.old self.new result }
+        ensures answer { ShareAnswer (total_joining S.Space S.Joining.own space.now) self.old self.new result }
         ensures unchanged { is_err result ≡ true → self.new ≡ self.old }
     {
         if !self.stands {

@@ -7,7 +7,7 @@ use Rattle.forest.specs.declared.Edge.{Edge}
 use Rattle.forest.proofs.Labelled.{joined_label}
 use Rattle.space.specs.declared.TheConstants.{LONGEST}
 use Rattle.space.specs.declared.spot.Spot.{Spot}
-use Rattle.space.specs.Spots.{spot_of as spot_at}
+use Rattle.space.specs.Spots.{spot_of}
 use Rattle.span_laws.specs.Spanning.{SpanningSeed}
 use Rattle.span_laws.proofs.Checks.{every, every_at}
 use Rattle.span_laws.proofs.Steps.{spanning_only}
@@ -56,13 +56,13 @@ module _ (W : Geometry) (n : State) where
 
   -- the pins fit
   abbrev fits_pin : Spot → Bool
-  fits_pin z = leb W.width LONGEST && (W.admitted z && (ltb n.pins 256 && every n.pins (λ k. leb 1 (W.between (spot_at n.spots k) z))))
+  fits_pin z = leb W.width LONGEST && (W.admitted z && (ltb n.pins 256 && every n.pins (λ k. leb 1 (W.between (spot_of n.spots k) z))))
 
   record FitsPin (z : Spot) : Type 0 where
     narrow : W.width ≤ LONGEST
     admits : W.admitted z ≡ true
     few : n.pins < 256
-    far : (k : ℕ) → k < n.pins → 1 ≤ W.between (spot_at n.spots k) z
+    far : (k : ℕ) → k < n.pins → 1 ≤ W.between (spot_of n.spots k) z
 
   fits_pin_lem : (z : Spot) → fits_pin z ≡ true → FitsPin z
   fits_pin_lem z h =
@@ -73,7 +73,7 @@ module _ (W : Geometry) (n : State) where
         narrow = leb-true _ _ h₁.0;
         admits = h₂.0;
         few = ltb-true _ _ h₃.0;
-        far = λ k l. leb-true _ _ (every_at n.pins (λ k. leb 1 (W.between (spot_at n.spots k) z)) h₃.1 k l);
+        far = λ k l. leb-true _ _ (every_at n.pins (λ k. leb 1 (W.between (spot_of n.spots k) z)) h₃.1 k l);
       }
 
   pin_can : (z : Spot) → fits_pin z ≡ true → JoinAnswers W n (with_pin n z) (Wire (Pin z)) (Ok n.pins)
@@ -91,7 +91,7 @@ module _ (W : Geometry) (n : State) where
       only (Err e) m a = absurd (past (is_lawful p q h) a.0)
 
   abbrev edge_length : (a b : ℕ) → ℕ
-  edge_length a b = W.between (spot_at n.spots a) (spot_at n.spots b)
+  edge_length a b = W.between (spot_of n.spots a) (spot_of n.spots b)
 
   abbrev fits_edge : (a b l : ℕ) → Bool
   fits_edge a b l =
@@ -166,13 +166,13 @@ module _ (W : Geometry) (n : State) where
         told (with_tree n rows) (wire_of rows) JoinedCall rest end (built_can T can, tt) (λ r m a. built T only r m a.0)
 
   -- the spanning seed
-  pub span_told : (E : List Edge) (rest : List Step) (end : Ending) → leb 2 n.pins ≡ true → SpanningSeed n.pins (λ u v. W.between (spot_at n.spots u) (spot_at n.spots v)) E → CallsFollow W (with_seed n E) rest end → CallsFollow W n (step (Wire Span) (answers (wire E)) ∷ rest) end
+  pub span_told : (E : List Edge) (rest : List Step) (end : Ending) → leb 2 n.pins ≡ true → SpanningSeed n.pins (λ u v. W.between (spot_of n.spots u) (spot_of n.spots v)) E → CallsFollow W (with_seed n E) rest end → CallsFollow W n (step (Wire Span) (answers (wire E)) ∷ rest) end
   span_told E rest end two spans f = told (with_seed n E) (wire E) (Wire Span) rest end ((leb-true _ _ two, (E, spans, refl, refl)), tt) spanned f
     where
       spanned : (r : Result ℕ Fault) (m : State) → JoinAnswers W n m (Wire Span) r → (r ≡ Ok (wire E)) × (m ≡ with_seed n E)
       spanned (Ok w) m a =
           let b = a.0.1 in
-          let e : b.0 ≡ E = spanning_only n.pins (λ u v. W.between (spot_at n.spots u) (spot_at n.spots v)) b.0 E b.1 spans in
+          let e : b.0 ≡ E = spanning_only n.pins (λ u v. W.between (spot_of n.spots u) (spot_of n.spots v)) b.0 E b.1 spans in
           (ap Ok (b.2 ∙ ap wire e), b.3 ∙ ap (with_seed n) e)
       spanned (Err e) m a = absurd (past (leb-true _ _ two) a.0)
 

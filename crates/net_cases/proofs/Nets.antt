@@ -4,7 +4,7 @@ use Rattle.std.specs.List.{AllByRecursion}
 use Rattle.std.proofs.lemmas.Bool.{ltb-true}
 use Rattle.build_laws.specs.Joining.{Farthest, Joins, PairOf, far_of, meet_group, meet_row}
 use Rattle.build_laws.specs.Joining.Joins.{done, join}
-use Rattle.build_laws.specs.Straight.{straight}
+use Rattle.build_laws.specs.Straight.{straight, net_rules}
 use Rattle.forest.specs.Edges.{Sound}
 use Rattle.forest.specs.Growth.{Grows, Planted}
 use Rattle.forest.specs.Rooted.{Forest}
@@ -17,11 +17,11 @@ use Rattle.order.specs.Firsts.Among.{here, there}
 use Rattle.order.specs.Orders.{then_by}
 use Rattle.order.proofs.Finding.{among_either, among_one}
 use Rattle.space.specs.declared.spot.Spot.{Spot}
-use Rattle.space.specs.Spots.{spot_of as spot_at}
+use Rattle.space.specs.Spots.{spot_of}
 use Rattle.tree_laws.specs.Trees.{wire_of}
 use Rattle.tree_laws.specs.declared.Row.{Row}
 use Rattle.walk_laws.specs.Walk.{start, walk}
-use Rattle.net_laws.specs.Answers.{JoinedTree, StraightTree, breakpoints, marks_of, net_rules}
+use Rattle.net_laws.specs.Answers.{JoinedTree, StraightTree, breakpoints, marks_of}
 use Rattle.net_laws.specs.States.{fresh}
 use Rattle.net_laws.specs.declared.call.Call.TheVariants.{Pin, Span, Straight}
 use Rattle.net_laws.specs.declared.call.JoinCall.TheVariants.{Wire, Joined}
@@ -34,16 +34,16 @@ use Rattle.cases.proofs.Square.{spans}
 use Rattle.cases.proofs.Walks.{corner_sound, far, fork_sound, square_sound}
 
 -- the straight tree over the one forest that the seed is
-straight_only : (d : Spot → Spot → ℕ) (spots : List Spot) (pins p q : ℕ) (E : List Edge) (F : Forest) → Sound (length spots) E → Grows E 0 0 0 F → (xs : List Row) → StraightTree d spots pins p q E xs → xs ≡ straight (net_rules d spots pins p q) (walk (net_rules d spots pins p q) 0 F start) (spot_at spots) (length spots)
+straight_only : (d : Spot → Spot → ℕ) (spots : List Spot) (pins p q : ℕ) (E : List Edge) (F : Forest) → Sound (length spots) E → Grows E 0 0 0 F → (xs : List Row) → StraightTree d spots pins p q E xs → xs ≡ straight (net_rules d spots pins p q) (walk (net_rules d spots pins p q) 0 F start) (spot_of spots) (length spots)
 straight_only d spots pins p q E F s g xs t =
     let R = net_rules d spots pins p q in
-    t.built ∙ ap (λ G. straight R (walk R 0 G start) (spot_at spots) (length spots)) (grows_only (accepted (length spots) E s) t.planted.grows g)
+    t.built ∙ ap (λ G. straight R (walk R 0 G start) (spot_of spots) (length spots)) (grows_only (accepted (length spots) E s) t.planted.grows g)
 
 -- there is a straight tree, so the only one is it
 straight_there : (d : Spot → Spot → ℕ) (spots : List Spot) (pins p q : ℕ) (E : List Edge) (rows : List Row) → Sound (length spots) E → length E + 1 ≡ length spots → ((xs : List Row) → StraightTree d spots pins p q E xs → xs ≡ rows) → StraightTree d spots pins p q E rows
 straight_there d spots pins p q E rows s e only =
     let P = planted (accepted (length spots) E s) e in
-    let t : StraightTree d spots pins p q E (straight (net_rules d spots pins p q) (marks_of d spots pins p q E P) (spot_at spots) (length spots)) = record { planted = P; built = refl } in
+    let t : StraightTree d spots pins p q E (straight (net_rules d spots pins p q) (marks_of d spots pins p q E P) (spot_of spots) (length spots)) = record { planted = P; built = refl } in
     subst (StraightTree d spots pins p q E) (only _ t) t
 
 corner_only : (xs : List Row) → StraightTree on_plane.between corner 3 0 1 (chain (far corner) 2) xs → xs ≡ corner_rows
@@ -66,7 +66,7 @@ fork_straight =
     (straight_told on_plane (laid on_plane fork 0 1 (6 ∷ (13 ∷ (3 ∷ [])))) 0 1 fork_rows [] (tree fork_rows) refl refl refl
     (straight_there on_plane.between fork 4 0 1 (chain (far fork) 3) fork_rows fork_sound refl fork_only) fork_only refl)
 
-square_straight : (p q : ℕ) (rows : List Row) → lawful p q ≡ true → wire_of rows ≡ 18 → straight (net_rules on_plane.between square 4 p q) (walk (net_rules on_plane.between square 4 p q) 0 (links (far square) 0 3) start) (spot_at square) 4 ≡ rows → CallsFollow on_plane fresh (seeded square p q (6 ∷ (6 ∷ (6 ∷ []))) (step (Wire Straight) (answers 18) ∷ [])) (tree rows)
+square_straight : (p q : ℕ) (rows : List Row) → lawful p q ≡ true → wire_of rows ≡ 18 → straight (net_rules on_plane.between square 4 p q) (walk (net_rules on_plane.between square 4 p q) 0 (links (far square) 0 3) start) (spot_of square) 4 ≡ rows → CallsFollow on_plane fresh (seeded square p q (6 ∷ (6 ∷ (6 ∷ []))) (step (Wire Straight) (answers 18) ∷ [])) (tree rows)
 square_straight p q rows law w is =
     let net = laid on_plane square p q (6 ∷ (6 ∷ (6 ∷ []))) in
     let only : (xs : List Row) → StraightTree on_plane.between square 4 p q (chain (far square) 3) xs → xs ≡ rows = λ xs t. straight_only on_plane.between square 4 p q (chain (far square) 3) (links (far square) 0 3) square_sound (chain_grows (far square) 3) xs t ∙ is in

@@ -1,4 +1,5 @@
 -- A net and a log leave one net: each call's answer says which. Assumes nothing.
+use Rattle.build_laws.specs.Straight.{net_rules}
 use Rattle.std.proofs.Common.{◌≡◌, ℕ, Bool, List, length, Some, Ok, Err, Result, sym, refl, ap, ◌∙◌, subst, arith}
 use Rattle.build_laws.specs.Joining.{Farthest, Joins, far_of, meet_group, meet_row}
 use Rattle.build_laws.specs.Joining.Joins.{done, join}
@@ -9,13 +10,13 @@ use Rattle.order.specs.Orders.{Order}
 use Rattle.tree_laws.specs.Shares.{share_order, shared_by}
 use Rattle.space.specs.declared.spot.Spot.{Spot}
 use Rattle.span_laws.proofs.Steps.{spanning_only}
-use Rattle.space.specs.Spots.{spot_of as spot_at}
+use Rattle.space.specs.Spots.{spot_of}
 use Rattle.order.specs.Bests.{BestOf}
 use Rattle.tree_laws.specs.Hooks.{hook_order}
 use Rattle.tree_laws.specs.Trees.{hang, row_spot}
 use Rattle.tree_laws.specs.declared.Row.{Row}
 use Rattle.walk_laws.specs.Walk.{start, walk}
-use Rattle.net_laws.specs.Answers.{Hooks, JoinAnswers, JoinedTree, Shares, StraightTree, breakpoints, net_rules}
+use Rattle.net_laws.specs.Answers.{Hooks, JoinAnswers, JoinedTree, Shares, StraightTree, breakpoints}
 use Rattle.net_laws.specs.Geometry.{Geometry}
 use Rattle.net_laws.specs.Logs.{Log, Runs}
 use Rattle.net_laws.specs.Logs.Runs.{next, still}
@@ -122,7 +123,7 @@ module _ (W : Geometry) (laws : Keeps W) where
     answers_one (Wire Span) (Ok w) a b =
         let x = a.0.1 in
         let y = b.0.1 in
-        x.3 ∙ ap (with_seed n) (spanning_only n.pins (λ u v. W.between (spot_at n.spots u) (spot_at n.spots v)) x.0 y.0 x.1 y.1) ∙ sym y.3
+        x.3 ∙ ap (with_seed n) (spanning_only n.pins (λ u v. W.between (spot_of n.spots u) (spot_of n.spots v)) x.0 y.0 x.1 y.1) ∙ sym y.3
     answers_one (Wire Span) (Err e) a b = a.1 ∙ sym b.1
     answers_one (Wire Straight) (Ok w) a b = straight_one w a b
     answers_one (Wire Straight) (Err e) a b = a.1 ∙ sym b.1

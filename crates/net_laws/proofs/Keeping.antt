@@ -6,7 +6,7 @@ use Rattle.forest.specs.declared.Edge.{Edge}
 use Rattle.forest.proofs.Accepted.{sound_none}
 use Rattle.order.proofs.Finding.{among_none}
 use Rattle.space.specs.declared.spot.Spot.{Spot}
-use Rattle.space.specs.Spots.{origin, spot_of as spot_at}
+use Rattle.space.specs.Spots.{origin, spot_of}
 use Rattle.span_laws.specs.Spanning.{SpanningSeed}
 use Rattle.span_laws.proofs.Steps.{spanning_agrees, spanning_only}
 use Rattle.tree_laws.specs.Trees.{OnePath, row_length, path_length, row_of, row_spot, up, wire_of}
@@ -56,7 +56,7 @@ reads n rows e =
 module _ (d : Spot → Spot → ℕ) where
   seed_after_only : (pins : List Spot) (e : Effect) (P : List Edge → Type 0) → ((E D : List Edge) → P E → P D → E ≡ D) → (E D : List Edge) → SeedAfter d pins e P E → SeedAfter d pins e P D → E ≡ D
   seed_after_only pins (adds_edge a b l) P only E D x y = x.2 ∙ ap (λ xs. xs ++ edge a b l ∷ []) (only x.0 y.0 x.1 y.1) ∙ sym y.2
-  seed_after_only pins spans P only E D x y = spanning_only (length pins) (λ u v. d (spot_at pins u) (spot_at pins v)) E D x y
+  seed_after_only pins spans P only E D x y = spanning_only (length pins) (λ u v. d (spot_of pins u) (spot_of pins v)) E D x y
   seed_after_only pins (adds_pin z) P only E D x y = x ∙ sym y
   seed_after_only pins drops_seed P only E D x y = x ∙ sym y
   seed_after_only pins nothing P only E D x y = only E D x y
@@ -88,14 +88,14 @@ module _ (W : Geometry) (laws : Keeps W) where
   -- the promises over what the log says, whatever the log
   abbrev LaidOver : List Spot → List Row → Type 0
   LaidOver nodes rows =
-      ((k : ℕ) → k < length nodes → (k < length rows) × (row_spot rows k ≡ spot_at nodes k))
+      ((k : ℕ) → k < length nodes → (k < length rows) × (row_spot rows k ≡ spot_of nodes k))
       × ((up rows 0 ≡ 0) × (row_length rows 0 ≡ 0))
       × ((k : ℕ) → k < length rows → up rows k < length rows)
       × ((k : ℕ) → k < length rows → (k ≡ 0 → ⊥) → row_length rows k ≡ W.between (row_spot rows (up rows k)) (row_spot rows k))
 
   abbrev Within : List Spot → (p q : ℕ) → List Row → Type 0
   Within pins p q rows =
-      (k : ℕ) → k < length pins → OnePath rows k × (q * path_length rows k ≤ (p + q) * W.between (spot_at pins 0) (spot_at pins k))
+      (k : ℕ) → k < length pins → OnePath rows k × (q * path_length rows k ≤ (p + q) * W.between (spot_of pins 0) (spot_of pins k))
 
   abbrev Bounded : (p q : ℕ) → (List Edge → Type 0) → List Row → Type 0
   Bounded p q Seed rows = (E : List Edge) → Seed E → p * wire_of rows ≤ (p + 2 * q) * wire E
@@ -110,8 +110,8 @@ module _ (W : Geometry) (laws : Keeps W) where
     front_is : take n.pins n.spots ≡ pins_of log
     front_is = ap (take n.pins) g.nodes ∙ take_at (pins_of log) (points_of log) n.pins (sym g.pins)
 
-    pin_is : (k : ℕ) → k < n.pins → spot_at n.spots k ≡ spot_at (pins_of log) k
-    pin_is k h = ap (λ xs. spot_at xs k) g.nodes ∙ get_or_append_left (pins_of log) (points_of log) origin k (omega (arith, g.pins))
+    pin_is : (k : ℕ) → k < n.pins → spot_of n.spots k ≡ spot_of (pins_of log) k
+    pin_is k h = ap (λ xs. spot_of xs k) g.nodes ∙ get_or_append_left (pins_of log) (points_of log) origin k (omega (arith, g.pins))
 
     -- ---- a build
 
@@ -120,7 +120,7 @@ module _ (W : Geometry) (laws : Keeps W) where
       laid_over = (
         λ k h.
             let i : k < length n.spots = omega (arith, ap length g.nodes) in
-            (omega (arith, p.more), p.spots k i ∙ ap (λ xs. spot_at xs k) g.nodes),
+            (omega (arith, p.more), p.spots k i ∙ ap (λ xs. spot_of xs k) g.nodes),
         (p.tree.driver, p.tree.still),
         p.tree.parents,
         p.lengths,
@@ -129,11 +129,11 @@ module _ (W : Geometry) (laws : Keeps W) where
       row_of_pin : (k : ℕ) → k < length (pins_of log) → k < length rows
       row_of_pin k h = omega (arith, g.pins, t.pins, p.more)
 
-      allowed_now : (a b : ℕ) → ((k : ℕ) → k < n.pins → b * path_length rows k ≤ (a + b) * W.between (spot_at n.spots 0) (spot_at n.spots k)) → OnePathWithinAllowance W log a b rows
+      allowed_now : (a b : ℕ) → ((k : ℕ) → k < n.pins → b * path_length rows k ≤ (a + b) * W.between (spot_of n.spots 0) (spot_of n.spots k)) → OnePathWithinAllowance W log a b rows
       allowed_now a b f k h =
           let i : k < n.pins = omega (arith, g.pins) in
-          let D : W.between (spot_at n.spots 0) (spot_at n.spots k) ≡ W.between (spot_at (pins_of log) 0) (spot_at (pins_of log) k) =
-          ap (λ z. W.between z (spot_at n.spots k)) (pin_is 0 (omega (arith, p.two))) ∙ ap (W.between (spot_at (pins_of log) 0)) (pin_is k i) in
+          let D : W.between (spot_of n.spots 0) (spot_of n.spots k) ≡ W.between (spot_of (pins_of log) 0) (spot_of (pins_of log) k) =
+          ap (λ z. W.between z (spot_of n.spots k)) (pin_is 0 (omega (arith, p.two))) ∙ ap (W.between (spot_of (pins_of log) 0)) (pin_is k i) in
           (hung p.tree k (row_of_pin k h), omega (arith, f k i, ap (λ x. (a + b) * x) D))
 
       bound_now : (a b : ℕ) → a * wire_of rows ≤ (a + 2 * b) * wire n.edges → WireWithinBound W log a b rows
@@ -215,13 +215,13 @@ module _ (W : Geometry) (laws : Keeps W) where
       tree = λ e. absurd (never e);
     }
 
-    kept_span : (w : ℕ) (E : List Edge) → SpanningSeed n.pins (λ u v. W.between (spot_at n.spots u) (spot_at n.spots v)) E → Guarantee W (record { call = Wire Span; answer = Ok w } ∷ log) (with_seed n E)
+    kept_span : (w : ℕ) (E : List Edge) → SpanningSeed n.pins (λ u v. W.between (spot_of n.spots u) (spot_of n.spots v)) E → Guarantee W (record { call = Wire Span; answer = Ok w } ∷ log) (with_seed n E)
     kept_span w E s =
-        let here = λ (u v : ℕ). W.between (spot_at n.spots u) (spot_at n.spots v) in
-        let there = λ (u v : ℕ). W.between (spot_at (pins_of log) u) (spot_at (pins_of log) v) in
+        let here = λ (u v : ℕ). W.between (spot_of n.spots u) (spot_of n.spots v) in
+        let there = λ (u v : ℕ). W.between (spot_of (pins_of log) u) (spot_of (pins_of log) v) in
         let P : ℕ → Type 0 = λ k. SpanningSeed k there E in
         let agrees : (u v : ℕ) → u < n.pins → v < n.pins → (u ≡ v → ⊥) → here u v ≡ there u v = λ u v h i ne.
-        ap (λ z. W.between z (spot_at n.spots v)) (pin_is u h) ∙ ap (W.between (spot_at (pins_of log) u)) (pin_is v i) in
+        ap (λ z. W.between z (spot_of n.spots v)) (pin_is u h) ∙ ap (W.between (spot_of (pins_of log) u)) (pin_is v i) in
         record {
           nodes = front_is ∙ sym (append-nil (pins_of log));
           pins = g.pins;
@@ -321,7 +321,7 @@ module _ (W : Geometry) (laws : Keeps W) where
     -- ---- calls that build
 
     module _ (two : 2 ≤ n.pins) (x y : ℕ) (al : n.allowance ≡ Some (x, y)) (rows : List Row) (p : Placed W.admitted W.between n rows)
-        (within : (k : ℕ) → k < n.pins → y * path_length rows k ≤ (x + y) * W.between (spot_at n.spots 0) (spot_at n.spots k))
+        (within : (k : ℕ) → k < n.pins → y * path_length rows k ≤ (x + y) * W.between (spot_of n.spots 0) (spot_of n.spots k))
         (bounded : x * wire_of rows ≤ (x + 2 * y) * wire n.edges) (w : ℕ) (wired : w ≡ wire_of rows) (ran : Runs W fresh log n) where
       -- a straight or a joined tree
       kept_built : (ev : Event) → effect_of ev ≡ builds w → JoinAnswers W n (with_tree n rows) ev.call ev.answer → Guarantee W (ev ∷ log) (with_tree n rows)

@@ -2,21 +2,21 @@
 use Rattle.std.proofs.Common.{◌≡◌, ℕ, suc, ◌<◌, ◌≤◌, max, true, ◌&&◌, List, [], ◌∷◌, map, length, get_or, Some, Ok, Err, Result, sym, refl, ap, ◌∙◌, subst, inl, inr, arith}
 use Rattle.std.proofs.lemmas.Bool.{and_from}
 use Rattle.build_laws.specs.Joining.{Grouped, Joins}
-use Rattle.build_laws.specs.Straight.{straight}
+use Rattle.build_laws.specs.Straight.{straight, net_rules}
 use Rattle.build_laws.proofs.Owning.{own_joins}
 use Rattle.tree_laws.specs.Shares.{ShareMove}
 use Rattle.tree_laws.proofs.ShareMoves as sharing
 use Rattle.tree_laws.specs.declared.share.Share.{Share}
 use Rattle.space.specs.declared.TheConstants.{LONGEST}
 use Rattle.space.specs.declared.spot.Spot.{Spot}
-use Rattle.space.specs.Spots.{origin, spot_of as spot_at}
+use Rattle.space.specs.Spots.{origin, spot_of}
 use Rattle.span_laws.proofs.Steps.{spanning_agrees}
 use Rattle.tree_laws.specs.Distances.{Measured}
 use Rattle.tree_laws.proofs.HookMoves.{measured, move_cut, move_own, settled, uncut}
 use Rattle.tree_laws.specs.Trees.{hang}
 use Rattle.tree_laws.specs.declared.Row.{Row}
 use Rattle.walk_laws.specs.Walk.{start, walk}
-use Rattle.net_laws.specs.Answers.{EdgeAnswer, HookAnswer, Hooks, JoinedAnswer, JoinedTree, PinAnswer, ShareAnswer, Shares, SpanAnswer, SpanBy, Stands, StraightAnswer, StraightTree, breakpoints, marks_of, net_rules}
+use Rattle.net_laws.specs.Answers.{EdgeAnswer, HookAnswer, Hooks, JoinedAnswer, JoinedTree, PinAnswer, ShareAnswer, Shares, SpanAnswer, SpanBy, Stands, StraightAnswer, StraightTree, breakpoints, marks_of}
 use Rattle.net_laws.specs.Geometry.{Geometry}
 use Rattle.net_laws.specs.States.{State}
 use Rattle.net_laws.specs.Spaces.{Keeps, Tied, made_total}
@@ -31,11 +31,11 @@ module _ (W : Geometry) (laws : Keeps W) where
   cut_is nar a b x y = uncut (W.between a b) W.width (W.admitted a && W.admitted b) (and_from _ _ x y) ((laws.metric nar).within a b x y) nar
 
   module _ (n : State) (t : Tied W.admitted W.width W.between n) where
-    nodes_cut : (u v : ℕ) → u < length n.spots → v < length n.spots → (made_total W).between (spot_at n.spots u) (spot_at n.spots v) ≡ W.between (spot_at n.spots u) (spot_at n.spots v)
-    nodes_cut u v h i = cut_is (t.narrow (omega arith)) (spot_at n.spots u) (spot_at n.spots v) (t.admitted u h) (t.admitted v i)
+    nodes_cut : (u v : ℕ) → u < length n.spots → v < length n.spots → (made_total W).between (spot_of n.spots u) (spot_of n.spots v) ≡ W.between (spot_of n.spots u) (spot_of n.spots v)
+    nodes_cut u v h i = cut_is (t.narrow (omega arith)) (spot_of n.spots u) (spot_of n.spots v) (t.admitted u h) (t.admitted v i)
 
-    pin_cut : (z : Spot) → W.width ≤ LONGEST → W.admitted z ≡ true → (k : ℕ) → k < n.pins → (made_total W).between (spot_at n.spots k) z ≡ W.between (spot_at n.spots k) z
-    pin_cut z nar adm k h = cut_is nar (spot_at n.spots k) z (t.admitted k (omega (arith, t.pins))) adm
+    pin_cut : (z : Spot) → W.width ≤ LONGEST → W.admitted z ≡ true → (k : ℕ) → k < n.pins → (made_total W).between (spot_of n.spots k) z ≡ W.between (spot_of n.spots k) z
+    pin_cut z nar adm k h = cut_is nar (spot_of n.spots k) z (t.admitted k (omega (arith, t.pins))) adm
 
     pub own_pin : (m : State) (z : Spot) (r : Result ℕ Fault) → PinAnswer (made_total W) n m z r → PinAnswer W n m z r
     own_pin m z (Ok k) a = (a.0, (a.1.0, (a.1.1.0, (λ k h. omega (arith, a.1.1.1.0 k h, pin_cut z a.0 a.1.0 k h), a.1.1.1.1))))
@@ -64,8 +64,8 @@ module _ (W : Geometry) (laws : Keeps W) where
           a.0,
           (
             b.0,
-            spanning_agrees n.pins (λ u v. d (spot_at n.spots u) (spot_at n.spots v)) (λ u v. W.between (spot_at n.spots u) (spot_at n.spots v))
-                (λ u v h i ne. omega (arith, is (spot_at n.spots u) (spot_at n.spots v), nodes_cut u v (omega (arith, t.pins)) (omega (arith, t.pins)), t.apart u v h i ne))
+            spanning_agrees n.pins (λ u v. d (spot_of n.spots u) (spot_of n.spots v)) (λ u v. W.between (spot_of n.spots u) (spot_of n.spots v))
+                (λ u v h i ne. omega (arith, is (spot_of n.spots u) (spot_of n.spots v), nodes_cut u v (omega (arith, t.pins)) (omega (arith, t.pins)), t.apart u v h i ne))
                 b.0 b.1,
             b.2,
             b.3,
@@ -76,9 +76,9 @@ module _ (W : Geometry) (laws : Keeps W) where
 
     -- ---- straight trees
 
-    directs_cut : 0 < length n.spots → map ((made_total W).between (spot_at n.spots 0)) n.spots ≡ map (W.between (spot_at n.spots 0)) n.spots
+    directs_cut : 0 < length n.spots → map ((made_total W).between (spot_of n.spots 0)) n.spots ≡ map (W.between (spot_of n.spots 0)) n.spots
     directs_cut some =
-        map_same ((made_total W).between (spot_at n.spots 0)) (W.between (spot_at n.spots 0)) n.spots (λ k h. nodes_cut 0 k some h)
+        map_same ((made_total W).between (spot_of n.spots 0)) (W.between (spot_of n.spots 0)) n.spots (λ k h. nodes_cut 0 k some h)
       where
         map_same : (f g : Spot → ℕ) (xs : List Spot) → ((k : ℕ) → k < length xs → f (get_or xs k origin) ≡ g (get_or xs k origin)) → map f xs ≡ map g xs
         map_same f g [] e = refl
@@ -90,7 +90,7 @@ module _ (W : Geometry) (laws : Keeps W) where
     pub own_straight_tree : 0 < length n.spots → (p q : ℕ) (rows : List Row) → StraightTree (made_total W).between n.spots n.pins p q n.edges rows → StraightTree W.between n.spots n.pins p q n.edges rows
     own_straight_tree some p q rows s = record {
       planted = s.planted;
-      built = s.built ∙ ap (λ R. straight R (walk R 0 s.planted.forest start) (spot_at n.spots) (length n.spots)) (rules_cut some p q);
+      built = s.built ∙ ap (λ R. straight R (walk R 0 s.planted.forest start) (spot_of n.spots) (length n.spots)) (rules_cut some p q);
     }
 
     pub own_straight : (m : State) (r : Result ℕ Fault) → StraightAnswer (made_total W) n m r → StraightAnswer W n m r

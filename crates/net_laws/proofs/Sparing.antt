@@ -3,7 +3,7 @@ use Rattle.std.proofs.Common.{◌≡◌, ℕ, zero, suc, ◌+◌, ◌*◌, ◌<�
 use Rattle.std.proofs.lemmas.Bool.{both_ways}
 use Rattle.build_laws.specs.Joining.{Grouped, Joins, JoinedKeeps}
 use Rattle.build_laws.specs.Joining.Joins.{done, join}
-use Rattle.build_laws.specs.Straight.{straight}
+use Rattle.build_laws.specs.Straight.{straight, net_rules}
 use Rattle.build_laws.proofs.Building.{straight_length}
 use Rattle.build_laws.proofs.Joined.{joining_keeps_lem}
 use Rattle.forest.specs.Growth.{Planted}
@@ -12,14 +12,14 @@ use Rattle.order.specs.Firsts.{Among}
 use Rattle.order.proofs.Finding.{among_none}
 use Rattle.space.specs.declared.TheConstants.{LONGEST}
 use Rattle.space.specs.declared.spot.Spot.{Spot}
-use Rattle.space.specs.Spots.{spot_of as spot_at}
+use Rattle.space.specs.Spots.{spot_of}
 use Rattle.tree_laws.specs.Trees.{row_length, path_length, up, wire_of}
 use Rattle.tree_laws.proofs.Ways.{hung}
 use Rattle.tree_laws.specs.declared.Row.{Row}
 use Rattle.walk_laws.specs.Promise.{Branch, Spares}
 use Rattle.walk_laws.specs.Walk.{Marks, start, walk}
 use Rattle.walk_laws.proofs.Seeing.{planted_seen}
-use Rattle.net_laws.specs.Answers.{JoinedAnswer, JoinedTree, Stands, StraightAnswer, StraightTree, breakpoints, broken_if, marks_of, net_rules}
+use Rattle.net_laws.specs.Answers.{JoinedAnswer, JoinedTree, Stands, StraightAnswer, StraightTree, breakpoints, broken_if, marks_of}
 use Rattle.net_laws.specs.Geometry.{Geometry}
 use Rattle.net_laws.specs.Builds.{Bounds, EdgeForEdge, NoMoreThanStraight, WithinBounds}
 use Rattle.net_laws.specs.States.{State}
@@ -46,7 +46,7 @@ module _ (W : Geometry) (laws : Keeps W) (n m : State) (t : Tied W.admitted W.wi
   pub straight_only : (p q : ℕ) (rows before : List Row) → StraightTree W.between n.spots n.pins p q n.edges rows → StraightTree W.between n.spots n.pins p q n.edges before → rows ≡ before
   straight_only p q rows before a b =
       a.built
-      ∙ ap (λ (F : Forest). straight (net_rules W.between n.spots n.pins p q) (walk (net_rules W.between n.spots n.pins p q) 0 F start) (spot_at n.spots) (length n.spots)) (same_forest a.planted b.planted)
+      ∙ ap (λ (F : Forest). straight (net_rules W.between n.spots n.pins p q) (walk (net_rules W.between n.spots n.pins p q) 0 F start) (spot_of n.spots) (length n.spots)) (same_forest a.planted b.planted)
       ∙ sym b.built
 
   module _ (two : 2 ≤ n.pins) (p q : ℕ) (al : n.allowance ≡ Some (p, q)) where
@@ -55,9 +55,9 @@ module _ (W : Geometry) (laws : Keeps W) (n m : State) (t : Tied W.admitted W.wi
     spared_rows rows s F h =
         let hq = (t.allowed p q al).1 in
         let R = net_rules W.between n.spots n.pins p q in
-        let e = straight_only p q rows (straight R (marks_of W.between n.spots n.pins p q n.edges F) (spot_at n.spots) (length n.spots)) s (record { planted = F; built = refl }) in
+        let e = straight_only p q rows (straight R (marks_of W.between n.spots n.pins p q n.edges F) (spot_of n.spots) (length n.spots)) s (record { planted = F; built = refl }) in
         let Q : List Row → Type 0 = λ xs. (u w l : ℕ) → Branch 0 F.forest u w l → (up xs w ≡ u) × (row_length xs w ≡ l) in (
-          ap length e ∙ straight_length R (marks_of W.between n.spots n.pins p q n.edges F) (spot_at n.spots) (length n.spots),
+          ap length e ∙ straight_length R (marks_of W.between n.spots n.pins p q n.edges F) (spot_of n.spots) (length n.spots),
           subst Q (sym e) (λ u w l b. (kept W laws n t two p q hq F).spared h u w l (branch_long W laws n t two p q hq F u w l b).1 b),
         )
 
@@ -75,7 +75,7 @@ module _ (W : Geometry) (laws : Keeps W) (n m : State) (t : Tied W.admitted W.wi
         let R = net_rules W.between n.spots n.pins p q in
         let P = s.planted in
         let keeps = kept W laws n t two p q hq P in
-        let Q : List Row → Type 0 = λ xs. (k : ℕ) → k < n.pins → q * path_length xs k ≤ (p + q) * W.between (spot_at n.spots 0) (spot_at n.spots k) in
+        let Q : List Row → Type 0 = λ xs. (k : ℕ) → k < n.pins → q * path_length xs k ≤ (p + q) * W.between (spot_of n.spots 0) (spot_of n.spots k) in
         let placed = placed_straight W laws n t two p q al rows s in
         record {
           tree = hung placed.tree;
@@ -84,7 +84,7 @@ module _ (W : Geometry) (laws : Keeps W) (n m : State) (t : Tied W.admitted W.wi
           direct = λ F v a.
               let S = marks_of W.between n.spots n.pins p q n.edges F in
               let b = among_breakpoints S (length n.spots) v a in
-              let e = straight_only p q rows (straight R S (spot_at n.spots) (length n.spots)) s (record { planted = F; built = refl }) in
+              let e = straight_only p q rows (straight R S (spot_of n.spots) (length n.spots)) s (record { planted = F; built = refl }) in
               ap (λ xs. path_length xs v) e ∙ (kept W laws n t two p q hq F).breakpoints v b.0 b.1 ∙ direct_is W laws n t two p q hq F v b.0;
         }
 

@@ -5,7 +5,7 @@ use Rattle.std.proofs.lemmas.Bool.{cases_Bool, cases_eq, cond-false, cond-true, 
 use Rattle.order.specs.Firsts.{Among}
 use Rattle.order.proofs.Finding.{among_either, among_none, among_one}
 use Rattle.build_laws.specs.Joining.{Grouped}
-use Rattle.build_laws.specs.Straight.{Straight, straight, straight_row}
+use Rattle.build_laws.specs.Straight.{Straight, straight, straight_row, net_rules}
 use Rattle.build_laws.proofs.Building.{straight_length, straight_of, straight_row_lem}
 use Rattle.forest.specs.Edges.{Near}
 use Rattle.forest.specs.Growth.{Planted}
@@ -13,7 +13,7 @@ use Rattle.forest.proofs.Accepted.{accepted, accepted_good}
 use Rattle.space.specs.Laws.{Metric}
 use Rattle.space.specs.declared.TheConstants.{LONGEST}
 use Rattle.space.specs.declared.spot.Spot.{Spot}
-use Rattle.space.specs.Spots.{origin, spot_of as spot_at}
+use Rattle.space.specs.Spots.{origin, spot_of}
 use Rattle.tree_laws.specs.Trees.{row_length, path_length, row_of, row_spot, up}
 use Rattle.tree_laws.specs.declared.Row.{Row}
 use Rattle.tree_laws.proofs.Ways.{path_driver}
@@ -21,7 +21,7 @@ use Rattle.walk_laws.specs.Promise.{Branch, WalkGuarantee, RootedTree, Triangle}
 use Rattle.walk_laws.specs.Walk.{Rules, Marks}
 use Rattle.walk_laws.proofs.Keeps.{walk_keeps_lem}
 use Rattle.walk_laws.proofs.Planting.{branch_near, planted_spans}
-use Rattle.net_laws.specs.Answers.{breakpoints, broken_if, marks_of, net_rules}
+use Rattle.net_laws.specs.Answers.{breakpoints, broken_if, marks_of}
 use Rattle.net_laws.specs.Geometry.{Geometry}
 use Rattle.net_laws.specs.States.{State}
 use Rattle.net_laws.specs.Spaces.{Keeps, Placed, Tied}
@@ -47,7 +47,7 @@ module _ (W : Geometry) (laws : Keeps W) (n : State) (t : Tied W.admitted W.widt
   N = length n.spots
 
   abbrev pub spot : ℕ → Spot
-  spot = spot_at n.spots
+  spot = spot_of n.spots
 
   pub narrow : W.width ≤ LONGEST
   narrow = t.narrow (omega (arith, t.pins))
@@ -80,7 +80,7 @@ module _ (W : Geometry) (laws : Keeps W) (n : State) (t : Tied W.admitted W.widt
     S = marks_of W.between n.spots n.pins p q n.edges F
 
     abbrev pub rows : List Row
-    rows = straight R S (spot_at n.spots) N
+    rows = straight R S (spot_of n.spots) N
 
     spans : RootedTree N F.rank F.forest
     spans = planted_spans N n.edges t.edges F

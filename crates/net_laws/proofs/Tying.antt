@@ -11,7 +11,7 @@ use Rattle.order.specs.Firsts.{Among}
 use Rattle.order.proofs.Finding.{among_either, among_none, among_one}
 use Rattle.space.specs.declared.TheConstants.{LONGEST}
 use Rattle.space.specs.declared.spot.Spot.{Spot}
-use Rattle.space.specs.Spots.{origin, spot_of as spot_at}
+use Rattle.space.specs.Spots.{origin, spot_of}
 use Rattle.span_laws.specs.Spanning.{SpanningSeed}
 use Rattle.tree_laws.specs.declared.Row.{Row}
 use Rattle.net_laws.specs.Answers.{Hooks, JoinAnswers, JoinedTree, Shares, StraightTree, breakpoints, marks_of}
@@ -37,13 +37,13 @@ same_some x y e = cc
 pub front_length : (p : ℕ) (xs : List Spot) → p ≤ length xs → length (take p xs) ≡ p
 front_length p xs h = simp length-take (omega arith)
 
-spot_front : (p : ℕ) (xs ys : List Spot) (k : ℕ) → p ≤ length xs → k < p → spot_at (take p xs ++ ys) k ≡ spot_at xs k
+spot_front : (p : ℕ) (xs ys : List Spot) (k : ℕ) → p ≤ length xs → k < p → spot_of (take p xs ++ ys) k ≡ spot_of xs k
 spot_front p xs ys k h l = get_or_append_left (take p xs) ys origin k (omega (arith, front_length p xs h)) ∙ get_or-take p xs k origin l
 
-spot_old : (xs ys : List Spot) (k : ℕ) → k < length xs → spot_at (xs ++ ys) k ≡ spot_at xs k
+spot_old : (xs ys : List Spot) (k : ℕ) → k < length xs → spot_of (xs ++ ys) k ≡ spot_of xs k
 spot_old xs ys k h = get_or_append_left xs ys origin k h
 
-spot_new : (xs : List Spot) (z : Spot) (k : ℕ) → length xs ≡ k → spot_at (xs ++ z ∷ []) k ≡ z
+spot_new : (xs : List Spot) (z : Spot) (k : ℕ) → length xs ≡ k → spot_of (xs ++ z ∷ []) k ≡ z
 spot_new xs z k h = get_or_push xs z origin k h
 
 -- an edge of the list stands at some place
@@ -67,27 +67,27 @@ module _ (W : Geometry) (laws : Keeps W) where
     tied_unseed : T (unseeded n)
     tied_unseed =
         let l = front_length n.pins n.spots t.pins in
-        let is : (k : ℕ) → k < n.pins → spot_at (take n.pins n.spots) k ≡ spot_at n.spots k = λ k h. get_or-take n.pins n.spots k origin h in
+        let is : (k : ℕ) → k < n.pins → spot_of (take n.pins n.spots) k ≡ spot_of n.spots k = λ k h. get_or-take n.pins n.spots k origin h in
         record {
           narrow = λ h. t.narrow (omega (arith, l, t.pins));
           pins = omega (arith, l);
           allowed = t.allowed;
           admitted = λ k h. let i : k < n.pins = omega (arith, l) in ap (λ z. W.admitted z) (is k i) ∙ t.admitted k (omega (arith, t.pins));
-          apart = λ u v h i ne. omega (arith, t.apart u v h i ne, ap (λ z. d z (spot_at (take n.pins n.spots) v)) (is u h), ap (d (spot_at n.spots u)) (is v i));
+          apart = λ u v h i ne. omega (arith, t.apart u v h i ne, ap (λ z. d z (spot_of (take n.pins n.spots) v)) (is u h), ap (d (spot_of n.spots u)) (is v i));
           edges = sound_none (length (take n.pins n.spots));
           lengths = λ e a. absurd (among_none a);
           rows = λ rows e. absurd (no_rows rows e);
         }
 
-    tied_pin : (z : Spot) → W.width ≤ LONGEST → W.admitted z ≡ true → ((k : ℕ) → k < n.pins → 1 ≤ d (spot_at n.spots k) z) → T (with_pin n z)
+    tied_pin : (z : Spot) → W.width ≤ LONGEST → W.admitted z ≡ true → ((k : ℕ) → k < n.pins → 1 ≤ d (spot_of n.spots k) z) → T (with_pin n z)
     tied_pin z nar adm far =
         let front = take n.pins n.spots in
         let l = front_length n.pins n.spots t.pins in
         let l' = length_push front z in
-        let old : (k : ℕ) → k < n.pins → spot_at (front ++ z ∷ []) k ≡ spot_at n.spots k = λ k h. spot_front n.pins n.spots (z ∷ []) k t.pins h in
-        let new : (k : ℕ) → k ≡ n.pins → spot_at (front ++ z ∷ []) k ≡ z = λ k h. spot_new front z k (l ∙ sym h) in
+        let old : (k : ℕ) → k < n.pins → spot_of (front ++ z ∷ []) k ≡ spot_of n.spots k = λ k h. spot_front n.pins n.spots (z ∷ []) k t.pins h in
+        let new : (k : ℕ) → k ≡ n.pins → spot_of (front ++ z ∷ []) k ≡ z = λ k h. spot_new front z k (l ∙ sym h) in
         let metric = laws.metric nar in
-        let ok : (k : ℕ) → k < n.pins → W.admitted (spot_at n.spots k) ≡ true = λ k h. t.admitted k (omega (arith, t.pins)) in
+        let ok : (k : ℕ) → k < n.pins → W.admitted (spot_of n.spots k) ≡ true = λ k h. t.admitted k (omega (arith, t.pins)) in
         record {
           narrow = λ h. nar;
           pins = omega (arith, l, l');
@@ -98,16 +98,16 @@ module _ (W : Geometry) (laws : Keeps W) where
               (λ (i : n.pins ≤ k). ap (λ x. W.admitted x) (new k (omega (arith, l, l'))) ∙ adm)
               (cases_lt k n.pins);
           apart = λ u v h i ne.
-              let at = spot_at (front ++ z ∷ []) in
+              let at = spot_of (front ++ z ∷ []) in
               ⊎_elim
               (λ (a : u < n.pins).
               ⊎_elim
-              (λ (b : v < n.pins). omega (arith, t.apart u v a b ne, ap (λ x. d x (at v)) (old u a), ap (d (spot_at n.spots u)) (old v b)))
-              (λ (b : n.pins ≤ v). omega (arith, far u a, ap (λ x. d x (at v)) (old u a), ap (d (spot_at n.spots u)) (new v (omega arith))))
+              (λ (b : v < n.pins). omega (arith, t.apart u v a b ne, ap (λ x. d x (at v)) (old u a), ap (d (spot_of n.spots u)) (old v b)))
+              (λ (b : n.pins ≤ v). omega (arith, far u a, ap (λ x. d x (at v)) (old u a), ap (d (spot_of n.spots u)) (new v (omega arith))))
               (cases_lt v n.pins))
               (λ (a : n.pins ≤ u).
               let b : v < n.pins = omega arith in
-              omega (arith, far v b, ap (λ x. d x (at v)) (new u (omega arith)), ap (d z) (old v b), metric.symmetric z (spot_at n.spots v) adm (ok v b)))
+              omega (arith, far v b, ap (λ x. d x (at v)) (new u (omega arith)), ap (d z) (old v b), metric.symmetric z (spot_of n.spots v) adm (ok v b)))
               (cases_lt u n.pins);
           edges = sound_none (length (front ++ z ∷ []));
           lengths = λ e a. absurd (among_none a);
@@ -133,8 +133,8 @@ module _ (W : Geometry) (laws : Keeps W) where
     tied_point z two adm =
         let N = length n.spots in
         let l = length_push n.spots z in
-        let old : (k : ℕ) → k < N → spot_at (n.spots ++ z ∷ []) k ≡ spot_at n.spots k = λ k h. spot_old n.spots (z ∷ []) k h in
-        let at = spot_at (n.spots ++ z ∷ []) in
+        let old : (k : ℕ) → k < N → spot_of (n.spots ++ z ∷ []) k ≡ spot_of n.spots k = λ k h. spot_old n.spots (z ∷ []) k h in
+        let at = spot_of (n.spots ++ z ∷ []) in
         record {
           narrow = λ h. t.narrow (omega (arith, t.pins));
           pins = omega (arith, t.pins, l);
@@ -144,15 +144,15 @@ module _ (W : Geometry) (laws : Keeps W) where
               (λ (i : k < N). ap (λ x. W.admitted x) (old k i) ∙ t.admitted k i)
               (λ (i : N ≤ k). ap (λ x. W.admitted x) (spot_new n.spots z k (omega (arith, l))) ∙ adm)
               (cases_lt k N);
-          apart = λ u v h i ne. omega (arith, t.apart u v h i ne, ap (λ x. d x (at v)) (old u (omega (arith, t.pins))), ap (d (spot_at n.spots u)) (old v (omega (arith, t.pins))));
+          apart = λ u v h i ne. omega (arith, t.apart u v h i ne, ap (λ x. d x (at v)) (old u (omega (arith, t.pins))), ap (d (spot_of n.spots u)) (old v (omega (arith, t.pins))));
           edges = sound_wider N (length (n.spots ++ z ∷ [])) n.edges (omega (arith, l)) t.edges;
           lengths = λ e a.
               let g = accepted_good (accepted N n.edges t.edges) e a in
-              t.lengths e a ∙ sym (ap (λ x. d x (at e.b)) (old e.a g.0) ∙ ap (d (spot_at n.spots e.a)) (old e.b g.1));
+              t.lengths e a ∙ sym (ap (λ x. d x (at e.b)) (old e.a g.0) ∙ ap (d (spot_of n.spots e.a)) (old e.b g.1));
           rows = λ rows e. absurd (no_rows rows e);
         }
 
-    tied_edge : (a b l : ℕ) → 2 ≤ n.pins → a < length n.spots → b < length n.spots → (Joined n.edges a b → ⊥) → 1 ≤ d (spot_at n.spots a) (spot_at n.spots b) → l ≡ d (spot_at n.spots a) (spot_at n.spots b) → T (with_edge n a b l)
+    tied_edge : (a b l : ℕ) → 2 ≤ n.pins → a < length n.spots → b < length n.spots → (Joined n.edges a b → ⊥) → 1 ≤ d (spot_of n.spots a) (spot_of n.spots b) → l ≡ d (spot_of n.spots a) (spot_of n.spots b) → T (with_edge n a b l)
     tied_edge a b l two ha hb off pos e =
         let N = length n.spots in
         let nar : W.width ≤ LONGEST = t.narrow (omega (arith, t.pins)) in
@@ -164,19 +164,19 @@ module _ (W : Geometry) (laws : Keeps W) where
           admitted = t.admitted;
           apart = t.apart;
           edges = sound_push N n.edges (edge a b l) t.edges
-              (ha, hb, omega arith, omega (arith, e, nar, m.within (spot_at n.spots a) (spot_at n.spots b) (t.admitted a ha) (t.admitted b hb)), off);
+              (ha, hb, omega arith, omega (arith, e, nar, m.within (spot_of n.spots a) (spot_of n.spots b) (t.admitted a ha) (t.admitted b hb)), off);
           lengths = λ x i.
               ⊎_elim
               (λ (j : Among x n.edges). t.lengths x j)
               (λ (j : Among x (edge a b l ∷ [])).
-              let P : Edge → Type 0 = λ y. y.length ≡ d (spot_at n.spots y.a) (spot_at n.spots y.b) in
+              let P : Edge → Type 0 = λ y. y.length ≡ d (spot_of n.spots y.a) (spot_of n.spots y.b) in
               subst P (sym (among_one j)) e)
               (among_either n.edges (edge a b l ∷ []) i);
           rows = λ rows e. absurd (no_rows rows e);
         }
 
     -- each edge of the spanning seed joins two pins at their distance
-    module _ (two : 2 ≤ n.pins) (E : List Edge) (s : SpanningSeed n.pins (λ u v. W.between (spot_at n.spots u) (spot_at n.spots v)) E) where
+    module _ (two : 2 ≤ n.pins) (E : List Edge) (s : SpanningSeed n.pins (λ u v. W.between (spot_of n.spots u) (spot_of n.spots v)) E) where
       sound_spanned : Sound n.pins E
       sound_spanned i x h =
           let f = (s.steps i x h).pair in
@@ -184,14 +184,14 @@ module _ (W : Geometry) (laws : Keeps W) where
           let nar : W.width ≤ LONGEST = t.narrow (omega (arith, t.pins)) in
           let P : ℕ → Type 0 = λ v. Joined (take i E) 0 v in
           let ne : e.a ≡ e.b → ⊥ = λ q. f.outside (subst P q f.inside) in
-          let m = (laws.metric nar).within (spot_at n.spots e.a) (spot_at n.spots e.b) (t.admitted e.a (omega (arith, t.pins, f.inner))) (t.admitted e.b (omega (arith, t.pins, f.outer))) in
+          let m = (laws.metric nar).within (spot_of n.spots e.a) (spot_of n.spots e.b) (t.admitted e.a (omega (arith, t.pins, f.inner))) (t.admitted e.b (omega (arith, t.pins, f.outer))) in
           (f.inner, f.outer, omega (arith, f.long, t.apart e.a e.b f.inner f.outer ne), omega (arith, f.long, m, nar), λ j. f.outside (joined_on f.inside j))
 
-      long_spanned : (e : Edge) → Among e E → (e.a < n.pins) × (e.b < n.pins) × (e.length ≡ d (spot_at n.spots e.a) (spot_at n.spots e.b))
+      long_spanned : (e : Edge) → Among e E → (e.a < n.pins) × (e.b < n.pins) × (e.length ≡ d (spot_of n.spots e.a) (spot_of n.spots e.b))
       long_spanned e a =
           let r = among_place E e a in
           let f = (s.steps r.0 e r.1).pair in
-          let P : Edge → Type 0 = λ x. (x.a < n.pins) × (x.b < n.pins) × (x.length ≡ d (spot_at n.spots x.a) (spot_at n.spots x.b)) in
+          let P : Edge → Type 0 = λ x. (x.a < n.pins) × (x.b < n.pins) × (x.length ≡ d (spot_of n.spots x.a) (spot_of n.spots x.b)) in
           subst P r.2 (f.inner, f.outer, f.long)
 
       tied_span : T (with_seed n E)
@@ -199,7 +199,7 @@ module _ (W : Geometry) (laws : Keeps W) where
           let u = tied_unseed in
           let front = take n.pins n.spots in
           let l = front_length n.pins n.spots t.pins in
-          let is : (k : ℕ) → k < n.pins → spot_at front k ≡ spot_at n.spots k = λ k h. get_or-take n.pins n.spots k origin h in
+          let is : (k : ℕ) → k < n.pins → spot_of front k ≡ spot_of n.spots k = λ k h. get_or-take n.pins n.spots k origin h in
           record {
             narrow = u.narrow;
             pins = u.pins;
@@ -209,7 +209,7 @@ module _ (W : Geometry) (laws : Keeps W) where
             edges = sound_wider n.pins (length front) E (omega (arith, l)) sound_spanned;
             lengths = λ e a.
                 let g = long_spanned e a in
-                g.2 ∙ sym (ap (λ x. d x (spot_at front e.b)) (is e.a g.0) ∙ ap (d (spot_at n.spots e.a)) (is e.b g.1));
+                g.2 ∙ sym (ap (λ x. d x (spot_of front e.b)) (is e.a g.0) ∙ ap (d (spot_of n.spots e.a)) (is e.b g.1));
             rows = λ rows e. absurd (no_rows rows e);
           }
 

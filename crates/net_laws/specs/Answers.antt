@@ -2,7 +2,7 @@
 use Rattle.std.specs.Prelude.{◌≡◌, ℕ, zero, suc, ◌+◌, ◌<◌, ◌≤◌, Bool, true, false, ◌⊎◌, List, [], ◌∷◌, ◌++◌, map, length, Some, None, Ok, Err, Result, slice_index}
 use Rattle.walk_laws.specs.Walk.{LawfulAllowance, Rules, Marks, start, walk}
 use Rattle.build_laws.specs.Joining.{Joins}
-use Rattle.build_laws.specs.Straight.{straight}
+use Rattle.build_laws.specs.Straight.{net_rules, straight}
 use Rattle.forest.specs.Edges.{Joined, wire}
 use Rattle.forest.specs.Growth.{Planted}
 use Rattle.forest.specs.declared.Edge.{Edge}
@@ -10,7 +10,7 @@ use Rattle.tree_laws.specs.Shares.{ShareMove, share_before, shared_by}
 use Rattle.tree_laws.specs.declared.share.Share.{Share}
 use Rattle.space.specs.declared.TheConstants.{LONGEST}
 use Rattle.space.specs.declared.spot.Spot.{Spot}
-use Rattle.space.specs.Spots.{spot_of as spot_at}
+use Rattle.space.specs.Spots.{spot_of}
 use Rattle.span_laws.specs.Spanning.{SpanningSeed}
 use Rattle.order.specs.Bests.{BestOf}
 use Rattle.tree_laws.specs.Hooks.{HookMove, hook_before}
@@ -50,10 +50,6 @@ Zero (Err e) = Unit {0}
 
 -- ---- trees
 
--- The allowance, which nodes are pins, and the distance of each node from the driver.
-abbrev pub net_rules : (Spot → Spot → ℕ) → List Spot → (pins p q : ℕ) → Rules
-net_rules d spots pins p q = record { p = p; q = q; pins = pins; direct = λ v. slice_index (map (d (spot_at spots 0)) spots) v }
-
 -- What the walk over the seed, seen from the driver, marks.
 abbrev pub marks_of : (Spot → Spot → ℕ) → (spots : List Spot) (pins p q : ℕ) (E : List Edge) → Planted (length spots) E → Marks
 marks_of d spots pins p q E F = walk (net_rules d spots pins p q) 0 F.forest start
@@ -70,7 +66,7 @@ breakpoints S (suc n) = breakpoints S n ++ broken_if (S n).broken n
 -- The rows are the straight tree: the breakpoints of the walk hang on the driver, and every other node on its parent from the walk.
 pub record StraightTree (d : Spot → Spot → ℕ) (spots : List Spot) (pins p q : ℕ) (E : List Edge) (rows : List Row) : Type 0 where
   pub planted : Planted (length spots) E
-  pub built : rows ≡ straight (net_rules d spots pins p q) (marks_of d spots pins p q E planted) (spot_at spots) (length spots)
+  pub built : rows ≡ straight (net_rules d spots pins p q) (marks_of d spots pins p q E planted) (spot_of spots) (length spots)
 
 -- The rows are the joined tree: the breakpoints of the straight tree are joined pair after pair.
 pub record JoinedTree (d : Spot → Spot → ℕ) (m : Spot → Spot → Spot → Spot) (spots : List Spot) (pins p q : ℕ) (E : List Edge) (rows : List Row) : Type 0 where
@@ -101,7 +97,7 @@ Stands n rows = n.tree ≡ Some rows
 module _ (W : Geometry) (n m : State) where
   abbrev pub PinAnswer : Spot → Result ℕ Fault → Type 0
   PinAnswer z =
-      asks 1 (W.width ≤ LONGEST) (asks 2 (W.admitted z ≡ true) (asks 3 (n.pins < 256) (asks 4 ((k : ℕ) → k < n.pins → 1 ≤ W.between (spot_at n.spots k) z)
+      asks 1 (W.width ≤ LONGEST) (asks 2 (W.admitted z ≡ true) (asks 3 (n.pins < 256) (asks 4 ((k : ℕ) → k < n.pins → 1 ≤ W.between (spot_of n.spots k) z)
       (accepts (λ k. (k ≡ n.pins) × (m ≡ with_pin n z))))))
 
   abbrev pub AllowAnswer : {A : Type 0} → (p q : ℕ) → Result A Fault → Type 0
@@ -114,8 +110,8 @@ module _ (W : Geometry) (n m : State) where
 
   abbrev pub EdgeAnswer : (a b : ℕ) → Result ℕ Fault → Type 0
   EdgeAnswer a b =
-      asks 6 (2 ≤ n.pins) (asks 8 ((a < length n.spots) × (b < length n.spots)) (asks 9 (Joined n.edges a b → ⊥) (asks 10 (1 ≤ W.between (spot_at n.spots a) (spot_at n.spots b))
-      (accepts (λ l. (l ≡ W.between (spot_at n.spots a) (spot_at n.spots b)) × (m ≡ with_edge n a b l))))))
+      asks 6 (2 ≤ n.pins) (asks 8 ((a < length n.spots) × (b < length n.spots)) (asks 9 (Joined n.edges a b → ⊥) (asks 10 (1 ≤ W.between (spot_of n.spots a) (spot_of n.spots b))
+      (accepts (λ l. (l ≡ W.between (spot_of n.spots a) (spot_of n.spots b)) × (m ≡ with_edge n a b l))))))
 
   abbrev pub UnseedAnswer : {A : Type 0} → Result A Fault → Type 0
   UnseedAnswer = accepts (λ k. m ≡ unseeded n)
@@ -124,7 +120,7 @@ module _ (W : Geometry) (n m : State) where
   abbrev pub SpanBy : (d : Spot → Spot → ℕ) → Result ℕ Fault → Type 0
   SpanBy d =
       asks 6 (2 ≤ n.pins)
-      (accepts (λ w. (E : List Edge) × SpanningSeed n.pins (λ u v. d (spot_at n.spots u) (spot_at n.spots v)) E × (w ≡ wire E) × (m ≡ with_seed n E)))
+      (accepts (λ w. (E : List Edge) × SpanningSeed n.pins (λ u v. d (spot_of n.spots u) (spot_of n.spots v)) E × (w ≡ wire E) × (m ≡ with_seed n E)))
 
   abbrev pub SpanAnswer : Result ℕ Fault → Type 0
   SpanAnswer = SpanBy W.between

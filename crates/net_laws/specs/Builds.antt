@@ -1,14 +1,15 @@
 -- What a build promises beside which tree it is: bounds on wire and paths, a seed within the allowance built edge for edge, and a joined tree with
 -- no more wire than the straight one. Assumes nothing.
+use Rattle.build_laws.specs.Straight.{net_rules}
 use Rattle.std.specs.Prelude.{◌≡◌, ℕ, ◌+◌, ◌*◌, ◌<◌, ◌≤◌, List, length, Some}
 use Rattle.forest.specs.Edges as seed
 use Rattle.forest.specs.Growth.{Planted}
 use Rattle.order.specs.Firsts.{Among}
-use Rattle.space.specs.Spots.{spot_of as spot_at}
+use Rattle.space.specs.Spots.{spot_of}
 use Rattle.tree_laws.specs.Trees.{OnePath, row_length, path_length, up, wire_of}
 use Rattle.tree_laws.specs.declared.Row.{Row}
 use Rattle.walk_laws.specs.Promise.{Branch, Spares}
-use Rattle.net_laws.specs.Answers.{Stands, StraightTree, breakpoints, marks_of, net_rules}
+use Rattle.net_laws.specs.Answers.{Stands, StraightTree, breakpoints, marks_of}
 use Rattle.net_laws.specs.Geometry.{Geometry}
 use Rattle.net_laws.specs.States.{State}
 
@@ -29,8 +30,8 @@ NoMoreThanStraight W n m =
 pub record WithinBounds (W : Geometry) (n : State) (p q : ℕ) (rows : List Row) : Type 0 where
   pub tree : (k : ℕ) → k < length rows → OnePath rows k
   pub wire : p * wire_of rows ≤ (p + 2 * q) * seed.wire n.edges
-  pub allowed : (k : ℕ) → k < n.pins → q * path_length rows k ≤ (p + q) * W.between (spot_at n.spots 0) (spot_at n.spots k)
-  pub direct : (F : Planted (length n.spots) n.edges) (v : ℕ) → Among v (breakpoints (marks_of W.between n.spots n.pins p q n.edges F) (length n.spots)) → path_length rows v ≡ W.between (spot_at n.spots 0) (spot_at n.spots v)
+  pub allowed : (k : ℕ) → k < n.pins → q * path_length rows k ≤ (p + q) * W.between (spot_of n.spots 0) (spot_of n.spots k)
+  pub direct : (F : Planted (length n.spots) n.edges) (v : ℕ) → Among v (breakpoints (marks_of W.between n.spots n.pins p q n.edges F) (length n.spots)) → path_length rows v ≡ W.between (spot_of n.spots 0) (spot_of n.spots v)
 
 -- The tree of m is within the bounds that n sets.
 abbrev pub Bounds : Geometry → (n m : State) → Type 0

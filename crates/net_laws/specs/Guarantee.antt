@@ -4,7 +4,7 @@ use Rattle.forest.specs.Edges.{wire}
 use Rattle.forest.specs.declared.Edge.{Edge}
 use Rattle.space.specs.Laws.{Meets, Metric}
 use Rattle.space.specs.declared.TheConstants.{LONGEST}
-use Rattle.space.specs.Spots.{spot_of as spot_at}
+use Rattle.space.specs.Spots.{spot_of}
 use Rattle.tree_laws.specs.Trees.{OnePath, row_length, path_length, row_of, row_spot, up, wire_of}
 use Rattle.tree_laws.specs.declared.Row.{Row}
 use Rattle.net_laws.specs.Geometry.{Geometry}
@@ -31,7 +31,7 @@ pub record SinceBuild (W : Geometry) (log : Log) (n : State) (since before : Log
 -- Every pin hangs on the driver by exactly one path, within the allowance p/q.
 abbrev pub OnePathWithinAllowance : Geometry → Log → (p q : ℕ) → List Row → Type 0
 OnePathWithinAllowance W log p q rows =
-    (k : ℕ) → k < length (pins_of log) → OnePath rows k × (q * path_length rows k ≤ (p + q) * W.between (spot_at (pins_of log) 0) (spot_at (pins_of log) k))
+    (k : ℕ) → k < length (pins_of log) → OnePath rows k × (q * path_length rows k ≤ (p + q) * W.between (spot_of (pins_of log) 0) (spot_of (pins_of log) k))
 
 -- The tree's wire is within the bound by that of the seed it was built from.
 abbrev pub WireWithinBound : Geometry → Log → (p q : ℕ) → List Row → Type 0
@@ -48,7 +48,7 @@ NoPathGrows log start rows = (k : ℕ) → k < length (pins_of log) → OnePath 
 -- The rows lie in the space: each node at the spot of its call, the driver's row is its own parent at length 0, every parent is a row, and every
 -- other row's length is its distance from its parent.
 pub record LiesInSpace (W : Geometry) (log : Log) (rows : List Row) : Type 0 where
-  pub nodes : (k : ℕ) → k < length (nodes_of log) → (k < length rows) × (row_spot rows k ≡ spot_at (nodes_of log) k)
+  pub nodes : (k : ℕ) → k < length (nodes_of log) → (k < length rows) × (row_spot rows k ≡ spot_of (nodes_of log) k)
   pub driver : (up rows 0 ≡ 0) × (row_length rows 0 ≡ 0)
   pub parents : (k : ℕ) → k < length rows → up rows k < length rows
   pub lengths : (k : ℕ) → k < length rows → (k ≢ 0) → row_length rows k ≡ W.between (row_spot rows (up rows k)) (row_spot rows k)

@@ -3,7 +3,7 @@ use Rattle.std.specs.Prelude.{◌≡◌, ℕ, ◌+◌, Bool, true, false, ◌&&�
 use Rattle.forest.specs.declared.Edge.{Edge}
 use Rattle.forest.specs.Edges.{edge}
 use Rattle.space.specs.declared.spot.Spot.{Spot}
-use Rattle.space.specs.Spots.{spot_of as spot_at}
+use Rattle.space.specs.Spots.{spot_of}
 use Rattle.span_laws.specs.Spanning.{SpanningSeed}
 use Rattle.net_laws.specs.Answers.{JoinAnswers}
 use Rattle.net_laws.specs.Geometry.{Geometry}
@@ -111,7 +111,7 @@ allowance_of (e ∷ log) = allowance_after (effect_of e) (allowance_of log)
 -- spanning seed of the pins.
 abbrev pub SeedAfter : (Spot → Spot → ℕ) → List Spot → Effect → (List Edge → Type 0) → List Edge → Type 0
 SeedAfter d pins (adds_edge a b l) Seed E = (D : List Edge) × Seed D × (E ≡ D ++ edge a b l ∷ [])
-SeedAfter d pins spans Seed E = SpanningSeed (length pins) (λ u v. d (spot_at pins u) (spot_at pins v)) E
+SeedAfter d pins spans Seed E = SpanningSeed (length pins) (λ u v. d (spot_of pins u) (spot_of pins v)) E
 SeedAfter d pins (adds_pin z) Seed E = E ≡ []
 SeedAfter d pins drops_seed Seed E = E ≡ []
 SeedAfter d pins nothing Seed E = Seed E

@@ -1,7 +1,7 @@
 -- What the calls that only read a net answer. Assumes nothing.
 use Rattle.std.specs.Prelude.{◌≡◌, ℕ, ◌*◌, ◌/◌, ◌<◌, ◌≤◌, List, length, None, Result}
 use Rattle.space.specs.declared.spot.Spot.{Spot}
-use Rattle.space.specs.Spots.{spot_of as spot_at}
+use Rattle.space.specs.Spots.{spot_of}
 use Rattle.tree_laws.specs.Trees.{path_length, row_of}
 use Rattle.tree_laws.specs.declared.Row.{Row}
 use Rattle.net_laws.specs.Answers.{Stands, accepts, asks}
@@ -24,7 +24,7 @@ RowsAnswer n =
 
 -- The direct distance of a pin.
 abbrev pub direct_distance : (Spot → Spot → ℕ) → State → (k : ℕ) → ℕ
-direct_distance d n k = d (spot_at n.spots 0) (spot_at n.spots k)
+direct_distance d n k = d (spot_of n.spots 0) (spot_of n.spots k)
 
 -- The path of the pin k, and its direct distance.
 abbrev pub PathAnswer : (Spot → Spot → ℕ) → State → (k : ℕ) → Result PinPath Fault → Type 0

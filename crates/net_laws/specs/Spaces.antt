@@ -1,15 +1,15 @@
 -- What a space of the code means to a net, its answers made total, and what ties a net to its space. Assumes nothing.
 use Rattle.std.specs.Prelude.{◌≡◌, ℕ, ◌<◌, ◌≤◌, min, Bool, true, ◌&&◌, List, length, Some, ◌≢◌}
-use Rattle.std.specs.Option.{unwrap_or}
 use Rattle.forest.specs.Edges.{Sound}
 use Rattle.forest.specs.declared.Edge.{Edge}
 use Rattle.order.specs.Firsts.{Among}
-use Rattle.space.specs.Laws.{Meets, Metric, answered}
+use Rattle.space.specs.Laws.{Meets, Metric}
 use Rattle.space.specs.declared.TheConstants.{LONGEST}
+use Rattle.space.specs.Totals.{capped, met}
 use Rattle.space.specs.declared.Joining.{Ghosts as JoinGhosts}
 use Rattle.space.specs.declared.Space.{Ghosts}
 use Rattle.space.specs.declared.spot.Spot.{Spot}
-use Rattle.space.specs.Spots.{spot_of as spot_at}
+use Rattle.space.specs.Spots.{spot_of}
 use Rattle.tree_laws.specs.Trees.{RowTree, row_length, row_spot, up}
 use Rattle.tree_laws.specs.declared.Row.{Row}
 use Rattle.walk_laws.specs.Walk.{LawfulAllowance}
@@ -24,27 +24,22 @@ wiring G s = record { admitted = G.admitted s; width = G.width s; between = G.be
 abbrev pub joining : {X : Type 0} → Ghosts X → JoinGhosts X → X → Geometry
 joining G J s = record { admitted = G.admitted s; width = G.width s; between = G.between s; meeting = J.meeting s }
 
--- The laws, owed where the space is at most 100,000,000 wide.
+-- The laws, owed where the space is at most LONGEST wide.
 pub record Keeps (W : Geometry) : Type 0 where
   pub metric : W.width ≤ LONGEST → Metric W.admitted W.width W.between
   pub meets : W.width ≤ LONGEST → Meets W.admitted W.between W.meeting
 
--- What the calls of a space answer, made total: a distance is cut at 100,000,000 and 0 where there is none, and a meet is o where there is none.
+-- What the calls of a space answer, made total.
 abbrev pub made_total : Geometry → Geometry
 made_total W =
-    record {
-      admitted = W.admitted;
-      width = W.width;
-      between = λ a b. min 100000000 (unwrap_or (answered (W.admitted a && W.admitted b) (W.between a b)) 0);
-      meeting = λ o a b. unwrap_or (answered (W.admitted o && W.admitted a && W.admitted b) (W.meeting o a b)) o;
-    }
+    record { admitted = W.admitted; width = W.width; between = capped W.admitted W.between; meeting = met W.admitted W.meeting }
 
 -- The rows of a tree over the nodes of two pins or more: the nodes come first, every spot is admitted, and every length is the distance from the parent.
 pub record Placed (admits : Spot → Bool) (d : Spot → Spot → ℕ) (n : State) (rows : List Row) : Type 0 where
   pub two : 2 ≤ n.pins
   pub tree : RowTree rows
   pub more : length n.spots ≤ length rows
-  pub spots : (k : ℕ) → k < length n.spots → row_spot rows k ≡ spot_at n.spots k
+  pub spots : (k : ℕ) → k < length n.spots → row_spot rows k ≡ spot_of n.spots k
   pub admitted : (k : ℕ) → k < length rows → admits (row_spot rows k) ≡ true
   pub lengths : (k : ℕ) → k < length rows → (k ≢ 0) → row_length rows k ≡ d (row_spot rows (up rows k)) (row_spot rows k)
 
@@ -55,10 +50,10 @@ pub record Tied (admits : Spot → Bool) (width : ℕ) (d : Spot → Spot → �
   pub narrow : 0 < length n.spots → width ≤ LONGEST
   pub pins : n.pins ≤ length n.spots
   pub allowed : (p q : ℕ) → n.allowance ≡ Some (p, q) → LawfulAllowance p q
-  pub admitted : (k : ℕ) → k < length n.spots → admits (spot_at n.spots k) ≡ true
-  pub apart : (u v : ℕ) → u < n.pins → v < n.pins → (u ≢ v) → 1 ≤ d (spot_at n.spots u) (spot_at n.spots v)
+  pub admitted : (k : ℕ) → k < length n.spots → admits (spot_of n.spots k) ≡ true
+  pub apart : (u v : ℕ) → u < n.pins → v < n.pins → (u ≢ v) → 1 ≤ d (spot_of n.spots u) (spot_of n.spots v)
   pub edges : Sound (length n.spots) n.edges
-  pub lengths : (e : Edge) → Among e n.edges → e.length ≡ d (spot_at n.spots e.a) (spot_at n.spots e.b)
+  pub lengths : (e : Edge) → Among e n.edges → e.length ≡ d (spot_of n.spots e.a) (spot_of n.spots e.b)
   pub rows : (rows : List Row) → n.tree ≡ Some rows → Placed admits d n rows
 
 -- The net is tied to its space.

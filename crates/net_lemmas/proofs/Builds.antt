@@ -5,17 +5,17 @@ use Rattle.std.proofs.lemmas.Bool.{cases_Bool, cases_eq, cond-false, cond-true}
 use Rattle.std.specs.Option.{unwrap_or}
 use Rattle.build_laws.specs.Joining.{Joins, far_of, driver_meet, meet_row}
 use Rattle.build_laws.specs.Joining.Joins.{done, join}
-use Rattle.build_laws.specs.Straight.{straight}
+use Rattle.build_laws.specs.Straight.{straight, net_rules}
 use Rattle.build_laws.proofs.Building.{straight_length, straight_row_lem}
 use Rattle.forest.specs.declared.Edge.{Edge}
 use Rattle.joined.proofs.Keeping.{among_here}
 use Rattle.joined.specs.Joinings.{Joinable, JoinedBy, GroupJoined}
-use Rattle.net_laws.specs.Answers.{JoinedTree, StraightTree, breakpoints, broken_if, marks_of, net_rules}
+use Rattle.net_laws.specs.Answers.{JoinedTree, StraightTree, breakpoints, broken_if, marks_of}
 use Rattle.order.specs.Firsts.{Among}
 use Rattle.space.specs.declared.Joining.{Ghosts as JoinGhosts}
 use Rattle.space.specs.declared.Space.{Ghosts}
 use Rattle.space.specs.declared.spot.Spot.{Spot}
-use Rattle.space.specs.Spots.{spot_of as spot_at}
+use Rattle.space.specs.Spots.{spot_of}
 use Rattle.straight.specs.Built.{StraightBy, Straightened, breakpoints_of}
 use Rattle.straight.proofs.Mixed.{among_breakpoints}
 use Rattle.tree.specs.declared.table.Tree.{Tree as Tree-table}
@@ -114,7 +114,7 @@ joined_some G J s t₀ group (Some w) t h j = h
 -- what the builder made is the straight tree
 pub straight_tree : (d : Spot → Spot → ℕ) (spots : List Spot) (pins p q : ℕ) (E : List Edge) (found : List ℕ) (w : ℕ) (rows : List Row) → Straightened d spots p q pins (length spots) E found w rows → StraightTree d spots pins p q E rows
 straight_tree d spots pins p q E found w rows h =
-    record { planted = h.walked.planted; built = h.rows ∙ ap (λ S. straight (net_rules d spots pins p q) S (spot_at spots) (length spots)) h.walked.is }
+    record { planted = h.walked.planted; built = h.rows ∙ ap (λ S. straight (net_rules d spots pins p q) S (spot_of spots) (length spots)) h.walked.is }
 
 -- what the joiner made of it is the joined tree
 pub joined_tree : (d : Spot → Spot → ℕ) (m : Spot → Spot → Spot → Spot) (spots : List Spot) (pins p q : ℕ) (E : List Edge) (found : List ℕ) (w : ℕ) (rows after : List Row) → Straightened d spots p q pins (length spots) E found w rows → Joins d m rows found after → JoinedTree d m spots pins p q E after
@@ -124,6 +124,6 @@ joined_tree d m spots pins p q E found w rows after h j =
     h.broken ∙ ap (λ S. breakpoints_of S (length spots)) h.walked.is ∙ breakpoints_listed (marks_of d spots pins p q E h.walked.planted) (length spots) in
     record {
       unjoined = rows;
-      straight = record { planted = h.walked.planted; built = h.rows ∙ ap (λ S. straight (net_rules d spots pins p q) S (spot_at spots) (length spots)) h.walked.is };
+      straight = record { planted = h.walked.planted; built = h.rows ∙ ap (λ S. straight (net_rules d spots pins p q) S (spot_of spots) (length spots)) h.walked.is };
       joins = subst Q e j;
     }

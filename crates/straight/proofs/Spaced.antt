@@ -17,9 +17,9 @@ use Rattle.tree_laws.specs.Trees.{row_length, row_of, row_spot, up}
 use Rattle.tree_laws.specs.Distances.{Measured}
 use Rattle.space.specs.Totals.{capped_distance}
 use Rattle.tree_laws.proofs.HookMoves.{uncut}
-use Rattle.build_laws.specs.Straight.{straight_row}
+use Rattle.build_laws.specs.Straight.{straight_row, net_rules}
 use Rattle.build_laws.proofs.Building.{straight_length, straight_row_lem}
-use Rattle.straight.specs.Built.{MeasuredSeed, Measures, StraightBy, Straightened, origin, build_rules}
+use Rattle.straight.specs.Built.{MeasuredSeed, Measures, StraightBy, Straightened, origin}
 use Rattle.space.specs.Spots.{spot_of}
 use Rattle.straight.proofs.Mixed.{among_breakpoints, row_broken, row_hung}
 
@@ -74,9 +74,9 @@ module _ {X : Type 0} (G : Ghosts X) (s : X) (law : G.width s ≤ LONGEST → Me
 
   module _ (p q pins : ℕ) where
     abbrev R : Rules
-    R = build_rules (G.between s) p q pins spots
+    R = net_rules (G.between s) spots pins p q
 
-    rules_far : 0 < n → build_rules (capped_distance G s) p q pins spots ≡ build_rules (G.between s) p q pins spots
+    rules_far : 0 < n → net_rules (capped_distance G s) spots pins p q ≡ net_rules (G.between s) spots pins p q
     rules_far some = ap (λ (xs : List ℕ). record { p = p; q = q; pins = pins; direct = λ v. get_or xs v 0 }) (reaches_far some)
 
     direct_far : (v : ℕ) → v < n → R.direct v ≡ far 0 v

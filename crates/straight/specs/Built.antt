@@ -16,11 +16,7 @@ use Rattle.tree_laws.specs.Trees.{path_length, wire_of}
 use Rattle.tree.specs.declared.table.Tree.{Tree}
 use Rattle.tree_laws.specs.Distances.{Measured}
 use Rattle.space.specs.Totals.{capped_distance}
-use Rattle.build_laws.specs.Straight.{Straight, straight}
-
--- The rules of the walk: the direct distance of a node is that of its spot from the driver's.
-abbrev pub build_rules : (Spot → Spot → ℕ) → (p q pins : ℕ) → List Spot → Rules
-build_rules d p q pins spots = record { p = p; q = q; pins = pins; direct = λ v. slice_index (map (d (spot_of spots 0)) spots) v }
+use Rattle.build_laws.specs.Straight.{Straight, net_rules, straight}
 
 -- The breakpoints among the nodes below n, in ascending number.
 abbrev pub breakpoints_of : laws.Marks → (n : ℕ) → List ℕ
@@ -38,7 +34,7 @@ pub record StraightBy (R : Rules) (place : ℕ → Spot) (n : ℕ) (E : List Edg
   pub wire : w ≡ wire_of built
 
 abbrev pub Straightened : (Spot → Spot → ℕ) → List Spot → (p q pins n : ℕ) → List Edge → List ℕ → ℕ → List Row → Type 0
-Straightened d spots p q pins n E found w built = StraightBy (build_rules d p q pins spots) (spot_of spots) n E found w built
+Straightened d spots p q pins n E found w built = StraightBy (net_rules d spots pins p q) (spot_of spots) n E found w built
 
 -- Spots and edges in a space that keeps the laws: every spot is admitted, and the length of every edge is the distance of its ends.
 pub record MeasuredSeed {X : Type 0} (G : Ghosts X) (s : X) (spots : List Spot) (E : List Edge) : Type 0 where

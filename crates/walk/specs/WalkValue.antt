@@ -28,9 +28,9 @@ direct_in [] k = refl
 direct_in (r ∷ rows) zero = refl
 direct_in (r ∷ rows) (suc k) = direct_in rows k
 
--- What is seen of the rows.
-abbrev pub seen : (rows : List NodeRow) → length rows ≤ NODES → ((k : ℕ) → directs rows k ≤ LONGEST) → WalkValue
-seen rows few near =
+-- What callers see of the rows.
+abbrev pub value_of : (rows : List NodeRow) → length rows ≤ NODES → ((k : ℕ) → directs rows k ≤ LONGEST) → WalkValue
+value_of rows few near =
     record {
       marks = marks_in rows;
       directs = directs_in rows;

@@ -21,11 +21,11 @@ pub struct Walk {
 }
 
 impl Model for Walk {
-    ghost use Rattle.walk.specs.WalkValue.{WalkValue, seen};
+    ghost use Rattle.walk.specs.WalkValue.{WalkValue, value_of};
 
     ghost Value = { WalkValue };
 
-    ghost view = { λ w. seen w.rows.items w.few w.near };
+    ghost view = { λ w. value_of w.rows.items w.few w.near };
 }
 
 /// Why a seed is not walked: there is not one row for each of its nodes.

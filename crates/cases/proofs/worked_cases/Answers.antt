@@ -3,4 +3,4 @@ use Rattle.cases.proofs.Rows.{rows}
 use Rattle.cases.proofs.worked_cases.Goals as goal
 
 pub returns : goal.returns
-returns c = record { every = rows; count = refl }
+returns c = record { every = rows; count = refl; limits = (refl, refl) }

@@ -29,9 +29,9 @@ returns-clause-walked c =
     let end = written c.self.inside.rows.len walked items (c.take_steps.ensures.kept.count ∙ c.renew_all.ensures.count ∙ c.as_mut_slice-rows.ensures.len) in
     let d : directs renewed ≡ directs items = renewed_directs rows renewed c.renew_all.ensures ∙ ap directs c.as_mut_slice-rows.ensures.value in
     let P : (ℕ → ℕ) → laws.Marks → Type 0 = λ f S. Walked (record { p = a.p; q = a.q; pins = c.args.pins; direct = f }) s.nodes s.edges S in
-    let seen : WalkedOver (rules_in a c.args.pins (directs_in items)) s (marks_in walked) = subst₂ P (d ∙ directs_seen items) (marks_seen walked) c.take_steps.ensures.walked in
+    let found : WalkedOver (rules_in a c.args.pins (directs_in items)) s (marks_in walked) = subst₂ P (d ∙ directs_seen items) (marks_seen walked) c.take_steps.ensures.walked in
     let Q : WalkValue → List NodeRow → Type 0 = λ w xs. WalkedOver (rules_in a c.args.pins w.directs) s (marks_in xs) in
-    subst₂ Q c.self.view_is (sym end) seen
+    subst₂ Q c.self.view_is (sym end) found
 
 pub returns-clause-kept : goal.returns-clause-kept
 returns-clause-kept c =
