@@ -45,7 +45,7 @@ ReadyAnswer n =
 pub record Straightens (d : Spot → Spot → ℕ) (a : Allowance) (n : State) (listed : List ℕ) (w : ℕ) (m : State) : Type 0 where
   pub rows : List Row
   pub straight : Straightened d n.spots a.p a.q n.pins (length n.spots) n.edges listed w rows
-  pub total_joining : Joinable rows listed
+  pub joinable : Joinable rows listed
   pub stands : m ≡ with_tree n rows
 
 -- Asked to build the straight tree, n answers r and is m then; `listed` are the breakpoints that stand listed.
@@ -62,7 +62,7 @@ fault_of Full = TooManyRows
 pub record JoinableIn (n : State) (members : List ℕ) : Type 0 where
   pub rows : List Row
   pub stands : Stands n rows
-  pub total_joining : Joinable rows members
+  pub joinable : Joinable rows members
 
 -- The members were joined pair after pair: the tree of m came of that of n, and its wire is w.
 pub record JoinsIn (d : Spot → Spot → ℕ) (j : Spot → Spot → Spot → Spot) (n : State) (members : List ℕ) (w : ℕ) (m : State) : Type 0 where
