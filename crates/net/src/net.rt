@@ -16,12 +16,13 @@ use crate::state::NetState;
 use joined::Joiner;
 use net_laws::{Fault, PinPath, Worst};
 use search::first_found;
+use share::Sharer;
 use space::{Joining, Space, Spot, capped_distance, edge_length};
 use span::Spanner;
 use std::alloc::{AllocError, Global};
 use std::marker::Model;
 use straight::Builder;
-use tree::Tree;
+use tree::{Refiner, Tree};
 use tree_laws::Row;
 use walk::Allowance;
 
@@ -37,6 +38,8 @@ pub struct Net<S: Space> {
     spanner: Spanner,
     builder: Builder,
     joiner: Joiner,
+    refiner: Refiner,
+    sharer: Sharer,
 }
 
 impl<S: Space> Model for Net<S> {
@@ -60,12 +63,16 @@ impl<S: Space + Drop> Net<S> {
         let spanner = Spanner::new(heap)?;
         let builder = Builder::new(heap)?;
         let joiner = Joiner::new(heap)?;
+        let refiner = Refiner::new(heap)?;
+        let sharer = Sharer::new(heap)?;
         Ok(Net {
             space,
             state,
             spanner,
             builder,
             joiner,
+            refiner,
+            sharer,
         })
     }
 }
@@ -153,7 +160,7 @@ impl<S: Space> Net<S> {
         ensures unchanged { is_err result ≡ true → self.new ≡ self.old }
         ensures stays { self.new.space ≡ self.old.space }
     {
-        self.state.hook(&self.space)
+        self.state.hook(&self.space, &mut self.refiner)
     }
 
     /// How many rows the tree has; they are numbered from 0. Refused where no tree stands (13).
@@ -244,6 +251,6 @@ impl<S: Joining> Net<S> {
         ensures unchanged { is_err result ≡ true → self.new ≡ self.old }
         ensures stays { self.new.space ≡ self.old.space }
     {
-        self.state.share(&self.space)
+        self.state.share(&self.space, &mut self.sharer)
     }
 }

@@ -16,13 +16,13 @@ ghost use Rattle.span_laws.specs.Spanning.{SpanningSeed};
 use joined::Joiner;
 use net_laws::{Fault, SpaceFault};
 use seed::Seed;
-use share::{ShareFault, share_best};
+use share::{ShareFault, Sharer, share_best};
 use space::{Joining, LONGEST, Space, Spot, capped_distance};
 use span::Spanner;
 use std::alloc::{AllocError, Global};
 use std::marker::Model;
 use straight::Builder;
-use tree::{Tree, hook_best};
+use tree::{Refiner, Tree, hook_best};
 use walk::Allowance;
 
 /// The most pins that a net can have.
@@ -297,25 +297,25 @@ impl NetState {
     }
 
     /// Makes the best hook move of the tree and answers what it saves.
-    pub(crate) fn hook<S: Space>(&mut self, space: &S) -> Result<u64, Fault>
+    pub(crate) fn hook<S: Space>(&mut self, space: &S, refiner: &mut Refiner) -> Result<u64, Fault>
         ensures answer { HookAnswer (total_wiring S.Space space.now) self.old self.new result }
         ensures unchanged { is_err result ≡ true → self.new ≡ self.old }
     {
         if !self.stands {
             return Err(Fault::NoTree);
         }
-        let saving = hook_best(space, &mut self.table).ok_or(Fault::NoMove)?;
+        let saving = hook_best(space, &mut self.table, refiner).ok_or(Fault::NoMove)?;
         Ok(saving)
     }
 
     /// Makes the best share move of the tree and answers what it saves.
-    pub(crate) fn share<S: Joining>(&mut self, space: &S) -> Result<u64, Fault>
+    pub(crate) fn share<S: Joining>(&mut self, space: &S, sharer: &mut Sharer) -> Result<u64, Fault>
         ensures answer { ShareAnswer (total_joining S.Space S.Joining.own space.now) self.old self.new result }
         ensures unchanged { is_err result ≡ true → self.new ≡ self.old }
     {
         if !self.stands {
             return Err(Fault::NoTree);
         }
-        share_best(space, &mut self.table).map_err(fault_of)
+        share_best(space, &mut self.table, sharer).map_err(fault_of)
     }
 }

@@ -1,2 +1,3 @@
 pub mod Gaining
+pub mod Linking
 pub mod Placing

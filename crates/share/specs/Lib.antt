@@ -1,3 +1,4 @@
 pub mod Meets
 pub mod Shares
 pub mod Searches
+pub mod Siblings

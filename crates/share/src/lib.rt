@@ -4,7 +4,8 @@
 
 mod meeting;
 mod sharing;
+mod siblings;
 
 pub use meeting::{hangs, insert_meet};
-pub use sharing::{ShareFault, share_best};
+pub use sharing::{ShareFault, Sharer, share_best};
 pub use tree_laws::Share;

@@ -18,10 +18,14 @@ row_at rows k = answered (nat_lt k (length rows)) (row_of rows k)
 abbrev pub path_at : List Row → ℕ → Option ℕ
 path_at rows k = answered (nat_lt k (length rows)) (path_length rows k)
 
--- The first numbers are the paths of the rows.
+-- The numbers are the paths of the first rows.
+abbrev pub KnownPaths : List Row → List ℕ → Type 0
+KnownPaths rows ps = (k : ℕ) → k < length ps → slice_index ps k ≡ path_length rows k
+
+-- The numbers are the paths of the rows.
 pub record Paths (rows : List Row) (ps : List ℕ) : Type 0 where
-  pub room : length rows ≤ length ps
-  pub paths : (k : ℕ) → k < length rows → slice_index ps k ≡ path_length rows k
+  pub count : length ps ≡ length rows
+  pub paths : KnownPaths rows ps
 
 -- There is room for one more row, and it can hang on u at length l.
 pub record Fits (t : Tree) (u l : ℕ) : Type 0 where

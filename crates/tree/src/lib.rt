@@ -5,7 +5,7 @@
 mod refining;
 mod table;
 
-pub use refining::hook_best;
+pub use refining::{Refiner, hook_best};
 pub use space::LONGEST;
 pub use table::{HangFault, ROWS, Tree};
 pub use tree_laws::{Hook, Row};

@@ -6,7 +6,6 @@ ghost use Rattle.tree_laws.specs.Trees.{RowTree, row_length};
 
 use space::{LONGEST, Spot};
 use std::alloc::{AllocError, Global};
-use std::array::from_fn;
 use std::marker::Model;
 use thiserror::Error;
 use tree_laws::Row;
@@ -59,8 +58,8 @@ impl Model for Tree {
 
 impl Tree {
     ghost use Rattle.std.specs.Prelude.{◌<◌, IfOk};
-    ghost use Rattle.tree_laws.specs.Trees.{OnePath, row_of, under, wire_of};
-    ghost use Rattle.tree.specs.Tables.{RowAdded, Changed, CanHang, Paths, path_at, row_at};
+    ghost use Rattle.tree_laws.specs.Trees.{OnePath, path_length, row_of, under, wire_of};
+    ghost use Rattle.tree.specs.Tables.{RowAdded, Changed, CanHang, KnownPaths, Paths, path_at, row_at};
 
     /// The driver alone, with room for `ROWS` rows.
     pub fn new(heap: Global, driver: Spot) -> Result<Tree, AllocError>
@@ -108,8 +107,15 @@ impl Tree {
         self.rows.iter().map(|row| row.length).sum()
     }
 
+    /// All rows, the driver's first.
+    pub fn rows(&self) -> &[Row]
+        ensures { result.now ≡ self.now.rows }
+    {
+        self.rows.as_slice()
+    }
+
     /// The path of the row `k`, the sum of the lengths on the one way from the driver down to it; nothing where there is no such row. Costs
-    /// a turn for each row of the tree.
+    /// a turn for each row on the way.
     pub fn path(&self, k: usize) -> Option<u64>
         ensures path { result ≡ path_at self.now.rows k }
         ensures way { k < length self.now.rows → OnePath self.now.rows k }
@@ -117,24 +123,44 @@ impl Tree {
         if k >= self.len() {
             return None;
         }
+        Some(self.path_over(k, &[0]))
+    }
+
+    /// The path of the row `k`, where those of the first rows are known. Costs a turn for each row from `k` up to one of these.
+    fn path_over(&self, k: usize, known: &[u64]) -> u64
+        requires row { k < length self.now.rows }
+        requires some { 0 < length known.now }
+        requires paths { KnownPaths self.now.rows known.now }
+        ensures { result ≡ path_length self.now.rows k }
+    {
         let mut path = 0;
         let mut at = k;
         for _ in 0..self.len() {
+            if at < known.len() {
+                return path + known[at];
+            }
             let row = self.at(at);
             path += row.length;
             at = row.parent;
         }
-        Some(path)
+        path
     }
 
-    /// The path of each row, and 0 for the numbers past the rows.
-    pub(crate) fn paths(&self) -> [u64; ROWS]
-        ensures { Paths self.now.rows result }
+    /// Lists the path of each row. Costs a turn for each row from each row up to the first with a lower number.
+    pub(crate) fn list_paths(&self, paths: &mut Vec<u64>)
+        requires { ROWS ≤ vec_capacity paths.old }
+        ensures paths { Paths self.now.rows paths.new.items }
+        ensures room { vec_capacity paths.new ≡ vec_capacity paths.old }
     {
-        from_fn(|k| self.path(k).unwrap_or(0))
+        paths.clear();
+        paths.push_reserved(0);
+        for k in 1..self.len() {
+            let path = self.path_over(k, paths.as_slice());
+            paths.push_reserved(path);
+        }
     }
 
-    /// Whether `u` is `v` or hangs below it.
+    /// Whether `u` is `v` or hangs below it. Costs a turn for each row from `u` up to `v` or the driver.
     pub fn under(&self, u: usize, v: usize) -> bool
         ensures { result ≡ under self.now.rows u v }
     {
@@ -142,6 +168,9 @@ impl Tree {
         for _ in 0..self.len() {
             if at == v {
                 return true;
+            }
+            if at == 0 {
+                return false;
             }
             at = self.at(at).parent;
         }
