@@ -17,7 +17,7 @@ use Rattle.space.specs.declared.Space.{Ghosts}
 use Rattle.space.specs.declared.spot.Spot.{Spot}
 use Rattle.space.specs.Spots.{spot_of}
 use Rattle.straight.specs.Built.{StraightBy, Straightened, breakpoints_of}
-use Rattle.straight.proofs.Mixed.{among_breakpoints}
+use Rattle.straight.proofs.Rows.{among_breakpoints}
 use Rattle.tree.specs.declared.table.Tree.{Tree as Tree-table}
 use Rattle.tree_laws.specs.Trees.{add, hang, row_spot, up}
 use Rattle.tree_laws.specs.declared.Row.{Row}

@@ -1,5 +1,5 @@
 -- What building a straight tree answers. `d` is the distance of two spots. Assumes nothing.
-use Rattle.std.specs.Prelude.{◌≡◌, ℕ, zero, suc, ◌+◌, ◌*◌, ◌<◌, ◌≤◌, true, cond, List, [], ◌∷◌, ◌++◌, map, length, Some, None, Option, slice_index}
+use Rattle.std.specs.Prelude.{◌≡◌, ℕ, zero, suc, ◌+◌, ◌*◌, ◌<◌, ◌≤◌, true, cond, List, [], ◌∷◌, ◌++◌, length, Some, None, Option}
 use Rattle.space.specs.Spots.{spot_of}
 use Rattle.space.specs.declared.TheConstants.{LONGEST}
 use Rattle.order.specs.Firsts.{Among}
