@@ -1,16 +1,13 @@
--- The rows of the straight tree one by one, and the list of its breakpoints. Assumes nothing.
-use Rattle.std.proofs.Common.{◌≡◌, ℕ, zero, suc, ◌<◌, ◌≤◌, true, false, cond, ◌||◌, eqb, List, [], ◌∷◌, ◌++◌, sym, refl, ap, ◌∙◌, subst, ⊎_elim, arith}
+-- The rows of the straight tree one by one. Assumes nothing.
+use Rattle.std.proofs.Common.{◌≡◌, ℕ, zero, suc, ◌<◌, ◌≤◌, true, false, cond, ◌||◌, eqb, [], ◌∷◌, ◌++◌, sym, refl, ap, ◌∙◌, ⊎_elim, arith}
 use Rattle.std.proofs.lemmas.Bool.{cases_Bool, cases_eq, cases_lt, cond-false, cond-true, eq-eqb, ne_eqb, or_from, or_left, or_right}
 use Rattle.std.proofs.lemmas.List.{get_or_past}
-use Rattle.order.specs.Firsts.{Among}
-use Rattle.order.proofs.Finding.{among_either, among_none, among_one}
 use Rattle.space.specs.declared.spot.Spot.{Spot}
 use Rattle.walk_laws.specs.Walk.{Rules, Marks}
 use Rattle.tree_laws.specs.declared.Row.{Row}
 use Rattle.tree_laws.specs.Trees.{blank, row_length}
 use Rattle.build_laws.specs.Straight.{straight, straight_row}
 use Rattle.build_laws.proofs.Building.{straight_length, straight_row_lem}
-use Rattle.straight.specs.Built.{breakpoints_of}
 
 same_row : (u u' : ℕ) (z : Spot) (l l' : ℕ) → u ≡ u' → l ≡ l' → ◌≡◌ {A = Row} (record { parent = u; spot = z; length = l }) (record { parent = u'; spot = z; length = l' })
 same_row u u' z l l' p q = ap (λ x. record { parent = x; spot = z; length = l }) p ∙ ap (λ x. record { parent = u'; spot = z; length = x }) q
@@ -70,19 +67,3 @@ module _ (R : Rules) (S : Marks) (place : ℕ → Spot) (n c : ℕ) (near : (k :
       (λ (h : k < n). omega (arith, ap (λ (r : Row). r.length) (straight_row_lem R S place n k h), row_short k h))
       (λ (h : n ≤ k). omega (arith, ap (λ (r : Row). r.length) (get_or_past (straight R S place n) k blank (omega (arith, straight_length R S place n)))))
       (cases_lt k n)
-
--- ---- the breakpoints
-
--- what is listed is a breakpoint
-pub among_breakpoints : (S : Marks) (n v : ℕ) → Among v (breakpoints_of S n) → (v < n) × ((S v).broken ≡ true)
-among_breakpoints S zero v a = absurd (among_none a)
-among_breakpoints S (suc n) v a =
-    let P : List ℕ → Type 0 = λ xs. Among v xs in
-    ⊎_elim
-    (λ (b : (S n).broken ≡ true).
-    ⊎_elim
-    (λ (k : Among v (breakpoints_of S n)). let r = among_breakpoints S n v k in (omega (arith, r.0), r.1))
-    (λ (k : Among v (n ∷ [])). let e : v ≡ n = among_one k in (omega arith, ap (λ x. (S x).broken) e ∙ b))
-    (among_either (breakpoints_of S n) (n ∷ []) (subst P (cond-true (S n).broken (breakpoints_of S n ++ n ∷ []) (breakpoints_of S n) b) a)))
-    (λ (b : (S n).broken ≡ false). let r = among_breakpoints S n v (subst P (cond-false (S n).broken (breakpoints_of S n ++ n ∷ []) (breakpoints_of S n) b) a) in (omega (arith, r.0), r.1))
-    (cases_Bool (S n).broken)

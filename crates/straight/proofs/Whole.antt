@@ -13,9 +13,9 @@ use Rattle.walk.specs.declared.table.WalkFault.{WalkFault}
 use Rattle.walk.specs.Walked.{Walked}
 use Rattle.tree_laws.specs.declared.Row.{Row}
 use Rattle.tree_laws.specs.Trees.{RowTree, row_length, wire_of}
-use Rattle.build_laws.specs.Straight.{Straight, straight, net_rules}
+use Rattle.build_laws.specs.Straight.{Straight, breakpoints, net_rules, straight}
 use Rattle.build_laws.proofs.Building.{straight_of}
-use Rattle.straight.specs.Built.{Straightened, breakpoints_of}
+use Rattle.straight.specs.Built.{Straightened}
 use Rattle.straight.specs.Laying.{laying_rules}
 use Rattle.straight.proofs.Rows.{straight_same, straight_short}
 
@@ -65,7 +65,7 @@ module _ (d : Spot → Spot → ℕ) (spots : List Spot) (p q pins n : ℕ) (E :
       straight_short (laying_rules new) S (spot_of spots) (length spots) LONGEST near
       (λ v h. walked_short R n E S sound whole_walked v (omega (arith, size)))
 
-  pub whole_straight : (found : List ℕ) (total : ℕ) (built : List Row) → built ≡ laid → found ≡ breakpoints_of S (length spots) → total ≡ wire_of built → Straightened d spots p q pins n E found total built
+  pub whole_straight : (found : List ℕ) (total : ℕ) (built : List Row) → built ≡ laid → found ≡ breakpoints S (length spots) → total ≡ wire_of built → Straightened d spots p q pins n E found total built
   whole_straight found total built e f t =
       let Q : List Row → Type 0 = λ rows. Straight R n whole_walked.planted.forest S rows in
       record {
@@ -73,6 +73,6 @@ module _ (d : Spot → Spot → ℕ) (spots : List Spot) (p q pins n : ℕ) (E :
         walked = whole_walked;
         rows = e ∙ laid_is;
         keeps = subst Q (sym e) whole_keeps;
-        broken = f ∙ ap (breakpoints_of S) (sym size);
+        broken = f ∙ ap (breakpoints S) (sym size);
         wire = t;
       }

@@ -4,7 +4,7 @@ ghost use Rattle.space.specs.declared.TheConstants.{LONGEST};
 ghost use Rattle.seed.specs.declared.store.TheConstants.{NODES};
 ghost use Rattle.space.specs.Totals.{capped_distance};
 ghost use Rattle.walk.specs.Marks.{marks_of, unmarked};
-ghost use Rattle.straight.specs.Built.{breakpoints_of};
+ghost use Rattle.build_laws.specs.Straight.{breakpoints};
 ghost use Rattle.space.specs.Spots.{spot_of};
 ghost use Rattle.straight.specs.Laying.{planned};
 ghost use Rattle.tree.specs.declared.table.TheConstants.{ROWS};
@@ -58,7 +58,7 @@ impl Plan<'_> {
     pub(crate) fn list(&self, broken: &mut Vec<usize>)
         requires { NODES ≤ vec_capacity broken.old }
         ensures found { broken.new.items
-            ≡ breakpoints_of (marks_of self.now.walk.now.marks) (length self.now.spots.now) }
+            ≡ breakpoints (marks_of self.now.walk.now.marks) (length self.now.spots.now) }
         ensures room { vec_capacity broken.new ≡ vec_capacity broken.old }
     {
         broken.clear();
