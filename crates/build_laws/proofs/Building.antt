@@ -1,5 +1,5 @@
 -- The straight tree keeps what the walk guarantees. Assumes nothing.
-use Rattle.std.proofs.Common.{◌≡◌, ℕ, zero, suc, ◌+◌, ◌*◌, ◌<◌, ◌≤◌, true, false, cond, ◌||◌, eqb, List, [], ◌∷◌, ◌++◌, length, Some, sym, refl, ap, ◌∙◌, subst, ⊎_elim, mul_assoc, add-mul, mul-le-mul_left, mul-add, arith}
+use Rattle.std.proofs.Common.{◌≡◌, ℕ, zero, suc, ◌+◌, ◌*◌, ◌<◌, ◌≤◌, Bool, true, false, cond, ◌||◌, eqb, List, [], ◌∷◌, ◌++◌, length, Some, sym, refl, ap, ◌∙◌, subst, ⊎_elim, mul_assoc, add-mul, mul-le-mul_left, mul-add, arith}
 use Rattle.std.proofs.lemmas.List.{length_push, get_or_push, get_or_append_left}
 use Rattle.std.proofs.lemmas.Bool.{cases_Bool, cases_eq, cases_lt, eq-eqb, ne_eqb, cond-true, cond-false, or_left, or_right, or_from}
 use Rattle.space.specs.declared.spot.Spot.{Spot}
@@ -14,7 +14,22 @@ use Rattle.tree_laws.specs.Trees.RowWay.{home, down}
 use Rattle.tree_laws.specs.Trees.{RowTree, RowWay, blank, row_length, path_length, row_of, up, wire_of}
 use Rattle.tree_laws.proofs.Adding.{add_wire}
 use Rattle.tree_laws.proofs.Ways.{path_driver, path_step, tree_from}
-use Rattle.build_laws.specs.Straight.{Straight, straight, straight_row}
+use Rattle.build_laws.specs.Straight.{Straight, breakpoints, broken_if, straight, straight_row}
+use Rattle.order.specs.Firsts.{Among}
+use Rattle.order.proofs.Finding.{among_either, among_none, among_one}
+
+-- what is listed is a breakpoint
+among_broken : (b : Bool) (v x : ℕ) → Among x (broken_if b v) → (x ≡ v) × (b ≡ true)
+among_broken true v x a = (among_one a, refl)
+among_broken false v x a = absurd (among_none a)
+
+pub among_breakpoints : (S : Marks) (n x : ℕ) → Among x (breakpoints S n) → (x < n) × ((S x).broken ≡ true)
+among_breakpoints S zero x a = absurd (among_none a)
+among_breakpoints S (suc n) x a =
+    ⊎_elim
+    (λ (i : Among x (breakpoints S n)). let r = among_breakpoints S n x i in (omega (arith, r.0), r.1))
+    (λ (i : Among x (broken_if (S n).broken n)). let r = among_broken (S n).broken n x i in (omega (arith, r.0), ap (λ v. (S v).broken) r.0 ∙ r.1))
+    (among_either (breakpoints S n) (broken_if (S n).broken n) a)
 
 module _ (R : Rules) (S : Marks) (spots : ℕ → Spot) where
   pub straight_length : (n : ℕ) → length (straight R S spots n) ≡ n

@@ -1,5 +1,5 @@
 -- The straight tree of a finished walk: every breakpoint hangs on the driver, and every other node on its parent from the walk. Assumes nothing.
-use Rattle.std.specs.Prelude.{◌≡◌, ℕ, zero, suc, ◌+◌, ◌*◌, ◌<◌, ◌≤◌, true, cond, ◌||◌, List, [], ◌∷◌, ◌++◌, map, ◌==◌, slice_index}
+use Rattle.std.specs.Prelude.{◌≡◌, ℕ, zero, suc, ◌+◌, ◌*◌, ◌<◌, ◌≤◌, Bool, true, false, cond, ◌||◌, List, [], ◌∷◌, ◌++◌, map, ◌==◌, slice_index}
 use Rattle.space.specs.Spots.{spot_of}
 use Rattle.space.specs.declared.spot.Spot.{Spot}
 use Rattle.forest.specs.Rooted.{Forest}
@@ -25,6 +25,15 @@ straight_row R S spots v = record {
 abbrev pub straight : Rules → Marks → (ℕ → Spot) → (n : ℕ) → List Row
 straight R S spots zero = []
 straight R S spots (suc n) = straight R S spots n ++ straight_row R S spots n ∷ []
+
+-- The breakpoints among the nodes below n, in ascending number.
+abbrev pub broken_if : Bool → ℕ → List ℕ
+broken_if true v = v ∷ []
+broken_if false v = []
+
+abbrev pub breakpoints : Marks → (n : ℕ) → List ℕ
+breakpoints S zero = []
+breakpoints S (suc n) = breakpoints S n ++ broken_if (S n).broken n
 
 -- What holds of the straight tree over the seed F.
 pub record Straight (R : Rules) (n : ℕ) (F : Forest) (S : Marks) (rows : List Row) : Type 0 where

@@ -1,8 +1,9 @@
 -- What each call asks, in order, and what it answers. Assumes nothing.
-use Rattle.std.specs.Prelude.{◌≡◌, ℕ, zero, suc, ◌+◌, ◌<◌, ◌≤◌, Bool, true, false, ◌⊎◌, List, [], ◌∷◌, ◌++◌, map, length, Some, None, Ok, Err, Result, slice_index}
-use Rattle.walk_laws.specs.Walk.{LawfulAllowance, Rules, Marks, start, walk}
+use Rattle.std.specs.Prelude.{◌≡◌, ℕ, ◌+◌, ◌<◌, ◌≤◌, true, ◌⊎◌, List, length, Some, None, Ok, Err, Result}
+use Rattle.walk_laws.specs.Walk.{LawfulAllowance, Marks, start, walk}
 use Rattle.build_laws.specs.Joining.{Joins}
 use Rattle.build_laws.specs.Straight.{net_rules, straight}
+pub use Rattle.build_laws.specs.Straight.{breakpoints, broken_if}
 use Rattle.forest.specs.Edges.{Joined, wire}
 use Rattle.forest.specs.Growth.{Planted}
 use Rattle.forest.specs.declared.Edge.{Edge}
@@ -53,15 +54,6 @@ Zero (Err e) = Unit {0}
 -- What the walk over the seed, seen from the driver, marks.
 abbrev pub marks_of : (Spot → Spot → ℕ) → (spots : List Spot) (pins p q : ℕ) (E : List Edge) → Planted (length spots) E → Marks
 marks_of d spots pins p q E F = walk (net_rules d spots pins p q) 0 F.forest start
-
--- The breakpoints below n, in ascending number.
-abbrev pub broken_if : Bool → ℕ → List ℕ
-broken_if true v = v ∷ []
-broken_if false v = []
-
-abbrev pub breakpoints : Marks → (n : ℕ) → List ℕ
-breakpoints S zero = []
-breakpoints S (suc n) = breakpoints S n ++ broken_if (S n).broken n
 
 -- The rows are the straight tree: the breakpoints of the walk hang on the driver, and every other node on its parent from the walk.
 pub record StraightTree (d : Spot → Spot → ℕ) (spots : List Spot) (pins p q : ℕ) (E : List Edge) (rows : List Row) : Type 0 where

@@ -1,28 +1,24 @@
 -- The breakpoints of a straight tree are rows on the driver that can be joined, and what the two builds answer. Assumes nothing.
-use Rattle.std.proofs.Common.{◌≡◌, ℕ, zero, suc, ◌+◌, ◌<◌, ◌≤◌, Bool, true, false, cond, ◌||◌, eqb, List, [], ◌∷◌, ◌++◌, length, get_or, Some, None, Ok, Option, sym, refl, ap, ◌∙◌, subst, ⊎_elim, arith}
+use Rattle.std.proofs.Common.{◌≡◌, ℕ, zero, suc, ◌+◌, ◌<◌, ◌≤◌, Bool, true, false, cond, ◌||◌, eqb, List, [], ◌∷◌, ◌++◌, length, get_or, Some, None, Option, sym, refl, ap, ◌∙◌, subst, ⊎_elim, arith}
 use Rattle.std.proofs.lemmas.List.{append-nil, get_or_append_left, get_or_push, length_push}
-use Rattle.std.proofs.lemmas.Bool.{cases_Bool, cases_eq, cond-false, cond-true}
+use Rattle.std.proofs.lemmas.Bool.{cases_Bool, cases_eq, cond-true}
 use Rattle.std.specs.Option.{unwrap_or}
-use Rattle.build_laws.specs.Joining.{Joins, far_of, driver_meet, meet_row}
-use Rattle.build_laws.specs.Joining.Joins.{done, join}
-use Rattle.build_laws.specs.Straight.{straight, net_rules}
-use Rattle.build_laws.proofs.Building.{straight_length, straight_row_lem}
+use Rattle.build_laws.specs.Joining.{Joins}
+use Rattle.build_laws.specs.Straight.{breakpoints, broken_if, net_rules, straight}
+use Rattle.build_laws.proofs.Building.{among_breakpoints, straight_length, straight_row_lem}
 use Rattle.forest.specs.declared.Edge.{Edge}
 use Rattle.joined.proofs.Keeping.{among_here}
 use Rattle.joined.specs.Joinings.{Joinable, JoinedBy, GroupJoined}
-use Rattle.net_laws.specs.Answers.{JoinedTree, StraightTree, breakpoints, broken_if, marks_of}
+use Rattle.net_laws.specs.Answers.{JoinedTree, StraightTree, marks_of}
 use Rattle.order.specs.Firsts.{Among}
 use Rattle.space.specs.declared.Joining.{Ghosts as JoinGhosts}
 use Rattle.space.specs.declared.Space.{Ghosts}
 use Rattle.space.specs.declared.spot.Spot.{Spot}
 use Rattle.space.specs.Spots.{spot_of}
-use Rattle.straight.specs.Built.{StraightBy, Straightened, breakpoints_of}
-use Rattle.straight.proofs.Mixed.{among_breakpoints}
+use Rattle.straight.specs.Built.{StraightBy, Straightened}
 use Rattle.tree.specs.declared.table.Tree.{Tree as Tree-table}
-use Rattle.tree_laws.specs.Trees.{add, hang, row_spot, up}
+use Rattle.tree_laws.specs.Trees.{up}
 use Rattle.tree_laws.specs.declared.Row.{Row}
-use Rattle.tree_laws.proofs.Adding.{add_length}
-use Rattle.tree_laws.proofs.Hanging.{hang_length}
 use Rattle.walk_laws.specs.Walk.{Rules, Marks}
 
 pub straight_count : (R : Rules) (place : ℕ → Spot) (n : ℕ) (E : List Edge) (found : List ℕ) (w : ℕ) (rows : List Row) → StraightBy R place n E found w rows → length rows ≡ n
@@ -33,28 +29,20 @@ Rising xs = (i : ℕ) → i + 1 < length xs → get_or xs i 0 < get_or xs (i + 1
 
 module _ (S : Marks) where
   -- the list goes on with n, or stays
-  more : (n : ℕ) → (S n).broken ≡ true → breakpoints_of S (suc n) ≡ breakpoints_of S n ++ n ∷ []
-  more n b = cond-true (S n).broken (breakpoints_of S n ++ n ∷ []) (breakpoints_of S n) b
+  more : (n : ℕ) → (S n).broken ≡ true → breakpoints S (suc n) ≡ breakpoints S n ++ n ∷ []
+  more n b = ap (λ x. breakpoints S n ++ broken_if x n) b
 
-  same : (n : ℕ) → (S n).broken ≡ false → breakpoints_of S (suc n) ≡ breakpoints_of S n
-  same n b = cond-false (S n).broken (breakpoints_of S n ++ n ∷ []) (breakpoints_of S n) b
+  same : (n : ℕ) → (S n).broken ≡ false → breakpoints S (suc n) ≡ breakpoints S n
+  same n b = ap (λ x. breakpoints S n ++ broken_if x n) b ∙ append-nil (breakpoints S n)
 
-  pub breakpoints_listed : (n : ℕ) → breakpoints_of S n ≡ breakpoints S n
-  breakpoints_listed zero = refl
-  breakpoints_listed (suc n) = ap (λ xs. cond (S n).broken (xs ++ n ∷ []) xs) (breakpoints_listed n) ∙ by (S n).broken (breakpoints S n)
-    where
-      by : (b : Bool) (xs : List ℕ) → cond b (xs ++ n ∷ []) xs ≡ xs ++ broken_if b n
-      by true xs = refl
-      by false xs = sym (append-nil xs)
-
-  few : (n k : ℕ) → ((v : ℕ) → v < n → (S v).broken ≡ true → v < k) → (length (breakpoints_of S n) ≤ n) × (length (breakpoints_of S n) ≤ k)
+  few : (n k : ℕ) → ((v : ℕ) → v < n → (S v).broken ≡ true → v < k) → (length (breakpoints S n) ≤ n) × (length (breakpoints S n) ≤ k)
   few zero k h = (omega arith, omega arith)
   few (suc n) k h =
       let r = few n k (λ v l b. h v (omega arith) b) in
       ⊎_elim
       (λ (b : (S n).broken ≡ true).
       let l : n < k = h n (omega arith) b in
-      let e = ap length (more n b) ∙ length_push (breakpoints_of S n) n in
+      let e = ap length (more n b) ∙ length_push (breakpoints S n) n in
       (omega (arith, e, r.0), omega (arith, e, r.0)))
       (λ (b : (S n).broken ≡ false). let e = ap length (same n b) in (omega (arith, e, r.0), omega (arith, e, r.1)))
       (cases_Bool (S n).broken)
@@ -72,14 +60,14 @@ module _ (S : Marks) where
       omega (arith, first, get_or_append_left xs (n ∷ []) 0 (i + 1) l, r i l))
       (cases_eq (i + 1) (length xs))
 
-  rising : (n : ℕ) → Rising (breakpoints_of S n)
+  rising : (n : ℕ) → Rising (breakpoints S n)
   rising zero i h = absurd (none i h)
     where
       none : (i : ℕ) → i + 1 < 0 → ⊥
       none i h = omega arith
   rising (suc n) i h =
       ⊎_elim
-      (λ (b : (S n).broken ≡ true). subst Rising (sym (more n b)) (rising_push (breakpoints_of S n) n (λ v a. (among_breakpoints S n v a).0) (rising n)) i h)
+      (λ (b : (S n).broken ≡ true). subst Rising (sym (more n b)) (rising_push (breakpoints S n) n (λ v a. (among_breakpoints S n v a).0) (rising n)) i h)
       (λ (b : (S n).broken ≡ false). subst Rising (sym (same n b)) (rising n) i h)
       (cases_Bool (S n).broken)
 
@@ -121,7 +109,7 @@ pub joined_tree : (d : Spot → Spot → ℕ) (m : Spot → Spot → Spot → Sp
 joined_tree d m spots pins p q E found w rows after h j =
     let Q : List ℕ → Type 0 = λ xs. Joins d m rows xs after in
     let e : found ≡ breakpoints (marks_of d spots pins p q E h.walked.planted) (length spots) =
-    h.broken ∙ ap (λ S. breakpoints_of S (length spots)) h.walked.is ∙ breakpoints_listed (marks_of d spots pins p q E h.walked.planted) (length spots) in
+    h.broken ∙ ap (λ S. breakpoints S (length spots)) h.walked.is in
     record {
       unjoined = rows;
       straight = record { planted = h.walked.planted; built = h.rows ∙ ap (λ S. straight (net_rules d spots pins p q) S (spot_of spots) (length spots)) h.walked.is };

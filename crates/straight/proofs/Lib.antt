@@ -1,4 +1,3 @@
-pub mod Falls
-pub mod Mixed
+pub mod Rows
 pub mod Spaced
 pub mod Whole

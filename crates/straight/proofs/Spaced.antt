@@ -18,10 +18,10 @@ use Rattle.tree_laws.specs.Distances.{Measured}
 use Rattle.space.specs.Totals.{capped_distance}
 use Rattle.tree_laws.proofs.HookMoves.{uncut}
 use Rattle.build_laws.specs.Straight.{straight_row, net_rules}
-use Rattle.build_laws.proofs.Building.{straight_length, straight_row_lem}
+use Rattle.build_laws.proofs.Building.{among_breakpoints, straight_length, straight_row_lem}
 use Rattle.straight.specs.Built.{MeasuredSeed, Measures, StraightBy, Straightened, origin}
 use Rattle.space.specs.Spots.{spot_of}
-use Rattle.straight.proofs.Mixed.{among_breakpoints, row_broken, row_hung}
+use Rattle.straight.proofs.Rows.{row_broken, row_hung}
 
 module _ {X : Type 0} (G : Ghosts X) (s : X) (law : G.width s ≤ LONGEST → Metric (G.admitted s) (G.width s) (G.between s)) (spots : List Spot) (n : ℕ) (E : List Edge) (sound : Sound n E) (size : n ≡ length spots) (a : MeasuredSeed G s spots E) where
   abbrev far : ℕ → ℕ → ℕ

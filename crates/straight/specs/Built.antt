@@ -1,5 +1,5 @@
 -- What building a straight tree answers. `d` is the distance of two spots. Assumes nothing.
-use Rattle.std.specs.Prelude.{◌≡◌, ℕ, zero, suc, ◌+◌, ◌*◌, ◌<◌, ◌≤◌, true, cond, List, [], ◌∷◌, ◌++◌, map, length, Some, None, Option, slice_index}
+use Rattle.std.specs.Prelude.{◌≡◌, ℕ, ◌+◌, ◌*◌, ◌<◌, ◌≤◌, true, List, length, Some, None, Option}
 use Rattle.space.specs.Spots.{spot_of}
 use Rattle.space.specs.declared.TheConstants.{LONGEST}
 use Rattle.order.specs.Firsts.{Among}
@@ -16,12 +16,7 @@ use Rattle.tree_laws.specs.Trees.{path_length, wire_of}
 use Rattle.tree.specs.declared.table.Tree.{Tree}
 use Rattle.tree_laws.specs.Distances.{Measured}
 use Rattle.space.specs.Totals.{capped_distance}
-use Rattle.build_laws.specs.Straight.{Straight, net_rules, straight}
-
--- The breakpoints among the nodes below n, in ascending number.
-abbrev pub breakpoints_of : laws.Marks → (n : ℕ) → List ℕ
-breakpoints_of S zero = []
-breakpoints_of S (suc n) = cond (S n).broken (breakpoints_of S n ++ n ∷ []) (breakpoints_of S n)
+use Rattle.build_laws.specs.Straight.{Straight, breakpoints, net_rules, straight}
 
 -- The rows are the straight tree of the walk by the rules R over the edges E, with all that this keeps; `found` are its breakpoints and w
 -- its wire.
@@ -30,7 +25,7 @@ pub record StraightBy (R : Rules) (place : ℕ → Spot) (n : ℕ) (E : List Edg
   pub walked : Walked R n E marks
   pub rows : built ≡ straight R marks place n
   pub keeps : Straight R n walked.planted.forest marks built
-  pub broken : found ≡ breakpoints_of marks n
+  pub broken : found ≡ breakpoints marks n
   pub wire : w ≡ wire_of built
 
 abbrev pub Straightened : (Spot → Spot → ℕ) → List Spot → (p q pins n : ℕ) → List Edge → List ℕ → ℕ → List Row → Type 0

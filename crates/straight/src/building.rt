@@ -57,7 +57,8 @@ impl Builder {
             walk: &self.walk,
             spots,
         };
-        plan.lay(tree, &mut self.broken)?;
+        tree.lay(&plan);
+        plan.list(&mut self.broken);
         Some(tree.wire())
     }
 

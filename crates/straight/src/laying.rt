@@ -1,14 +1,17 @@
 // The direct distances of the nodes, and the rows of the straight tree.
-ghost use Rattle.std.specs.Prelude.{◌≡◌, ◌≤◌, ◌↔◌, map, length, vec_capacity, slice_index, slice_index_or, IsSome, OnSome};
+ghost use Rattle.std.specs.Prelude.{◌≡◌, ℕ, ◌≤◌, ◌↔◌, map, length, vec_capacity, slice_index, slice_index_or, IsSome, OnSome};
 ghost use Rattle.space.specs.declared.TheConstants.{LONGEST};
 ghost use Rattle.seed.specs.declared.store.TheConstants.{NODES};
 ghost use Rattle.space.specs.Totals.{capped_distance};
 ghost use Rattle.walk.specs.Marks.{marks_of, unmarked};
-ghost use Rattle.straight.specs.Built.{breakpoints_of};
+ghost use Rattle.build_laws.specs.Straight.{breakpoints};
 ghost use Rattle.space.specs.Spots.{spot_of};
-ghost use Rattle.straight.specs.Laying.{Falling};
+ghost use Rattle.straight.specs.Laying.{planned};
+ghost use Rattle.tree.specs.declared.table.TheConstants.{ROWS};
+ghost use Rattle.tree_laws.specs.Trees.{RowTree, row_length};
 
 use space::{Space, Spot, capped_distance, spot_of};
+use tree::{Row, TreeRows};
 use walk::Mark;
 
 /// Gives the walk a row for each spot, with its distance from the driver. `None` where there are more spots than a walk can have rows.
@@ -25,21 +28,21 @@ pub(crate) fn measure<S: Space>(walk: &mut walk::Walk, space: &S, spots: &[Spot]
     Some(())
 }
 
-/// A finished walk and the spots of its nodes: what a straight tree is laid by.
+/// A finished walk and the spots of its nodes: the rows of a straight tree.
 #[derive(Drop)]
 pub(crate) struct Plan<'a> {
     pub(crate) walk: &'a walk::Walk,
     pub(crate) spots: &'a [Spot],
-    ghost few: { length spots.now ≤ NODES },
+    ghost nodes: { length spots.now ≤ NODES },
+    ghost few: { length (planned walk.now spots.now) ≤ ROWS },
+    ghost lengths: { (k : ℕ) → row_length (planned walk.now spots.now) k ≤ LONGEST },
+    ghost tree: { RowTree (planned walk.now spots.now) },
 }
 
-impl<'a> Plan<'a> {
-    ghost use Rattle.straight.specs.Laid.{LaidTo};
-
+impl Plan<'_> {
     /// The direct distance of a node; 0 where there is no such node.
     fn direct(&self, v: usize) -> u64
-        ensures value { result ≡ slice_index self.now.walk.now.directs v }
-        ensures short { result ≤ LONGEST }
+        ensures { result ≡ slice_index self.now.walk.now.directs v }
     {
         self.walk.direct(v).unwrap_or_default()
     }
@@ -51,39 +54,48 @@ impl<'a> Plan<'a> {
         self.walk.mark(v).unwrap_or_default()
     }
 
-    /// Hangs every node on the driver, at its direct distance. There is room for all of them.
-    fn star(&self, tree: &mut tree::Tree) -> Option<()>
-        requires { 1 ≤ length self.now.spots.now }
-        ensures done { IsSome result }
-        ensures rows { LaidTo self.now 1 tree.new.rows }
-    {
-        tree.restart(spot_of(self.spots, 0));
-        for v in 1..self.spots.len() {
-            tree.add(0, spot_of(self.spots, v), self.direct(v))?;
-        }
-        Some(())
-    }
-
-    /// Lays the rows of the straight tree, and lists the breakpoints. Every node can be hung.
-    pub(crate) fn lay(&self, tree: &mut tree::Tree, broken: &mut Vec<usize>) -> Option<()>
-        requires room { NODES ≤ vec_capacity broken.old }
-        requires falling { Falling (length self.now.spots.now) (marks_of self.now.walk.now.marks) }
-        ensures done { IsSome result }
-        ensures rows { LaidTo self.now (length self.now.spots.now) tree.new.rows }
+    /// Lists the breakpoints.
+    pub(crate) fn list(&self, broken: &mut Vec<usize>)
+        requires { NODES ≤ vec_capacity broken.old }
         ensures found { broken.new.items
-            ≡ breakpoints_of (marks_of self.now.walk.now.marks) (length self.now.spots.now) }
+            ≡ breakpoints (marks_of self.now.walk.now.marks) (length self.now.spots.now) }
         ensures room { vec_capacity broken.new ≡ vec_capacity broken.old }
     {
-        self.star(tree)?;
         broken.clear();
-        for v in 1..self.spots.len() {
-            let mark = self.mark(v);
-            if mark.broken {
+        for v in 0..self.spots.len() {
+            if self.mark(v).broken {
                 broken.push_reserved(v);
-            } else {
-                tree.hang(v, mark.parent, mark.edge).ok()?;
             }
         }
-        Some(())
+    }
+}
+
+// A breakpoint hangs on the driver at its direct distance, and every other node on its parent from the walk.
+impl TreeRows for Plan<'_> {
+    ghost tree = { λ plan. record {
+      rows = planned plan.walk.now plan.spots.now;
+      few = plan.few;
+      lengths = plan.lengths;
+      tree = plan.tree;
+    } };
+
+    fn count(&self) -> usize {
+        self.spots.len()
+    }
+
+    fn row(&self, v: usize) -> Row {
+        let mark = self.mark(v);
+        let (parent, length) = if v == 0 {
+            (0, 0)
+        } else if mark.broken {
+            (0, self.direct(v))
+        } else {
+            (mark.parent, mark.edge)
+        };
+        Row {
+            parent,
+            spot: spot_of(self.spots, v),
+            length,
+        }
     }
 }

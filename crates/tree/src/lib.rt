@@ -2,9 +2,11 @@
 
 #![tactic(auto)]
 
+mod laying;
 mod refining;
 mod table;
 
+pub use laying::TreeRows;
 pub use refining::{Refiner, hook_best};
 pub use space::LONGEST;
 pub use table::{HangFault, ROWS, Tree};

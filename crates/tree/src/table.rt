@@ -36,7 +36,7 @@ pub enum HangFault {
 /// Rows that all hang, one on another, on row 0, the driver.
 #[derive(Drop)]
 pub struct Tree {
-    rows: Vec<Row>,
+    pub(crate) rows: Vec<Row>,
     ghost room: { ROWS ≤ vec_capacity rows },
     ghost few: { length rows.items ≤ ROWS },
     ghost lengths: { (k : ℕ) → row_length rows.items k ≤ LONGEST },
