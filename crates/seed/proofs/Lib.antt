@@ -1,3 +1,3 @@
 pub mod Groups
 pub mod Answered
-pub mod Stepping
+pub mod Listing

@@ -1,5 +1,5 @@
 pub use Rattle.forest.specs.Rooted
+pub mod Ended
 pub mod Labelled
 pub mod SeedValue
 pub mod Seeds
-pub mod Steps

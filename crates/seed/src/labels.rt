@@ -11,7 +11,7 @@ use std::alloc::{AllocError, Global};
 /// of edges joins them.
 #[derive(Drop)]
 pub(crate) struct Labels {
-    of: Vec<usize>,
+    of: Vec<u16>,
     ghost room: { NODES ≤ vec_capacity of },
 }
 
@@ -37,17 +37,19 @@ impl Labels {
         ensures { self.new.of.items ≡ self.old.of.items ++ length self.old.of.items ∷ [] }
     {
         let node = self.of.len();
-        self.of.push_reserved(node);
+        self.of.push_reserved(node as u16);
     }
 
-    /// Starts again with `n` nodes, each with its own number as its label.
-    pub(crate) fn restart(&mut self, n: usize)
-        requires { n ≤ NODES }
+    /// Starts again with `n` nodes, each with its own number as its label. `alone` says that no edge joins nodes now: then a node that
+    /// stays costs nothing.
+    pub(crate) fn restart(&mut self, n: usize, alone: bool)
+        requires few { n ≤ NODES }
+        requires alone { IsTrue alone → Labelled [] self.old.of.items }
         ensures count { length self.new.of.items ≡ n }
         ensures labels { Labelled [] self.new.of.items }
     {
-        self.of.clear();
-        for _ in 0..n {
+        self.of.truncate(if alone { n } else { 0 });
+        for _ in self.of.len()..n {
             self.add();
         }
     }
@@ -63,9 +65,7 @@ impl Labels {
         let to = self.of[a];
         let from = self.of[b];
         for label in self.of.iter_mut() {
-            if *label == from {
-                *label = to;
-            }
+            *label = if *label == from { to } else { *label };
         }
     }
 

@@ -2,6 +2,8 @@
 
 #![tactic(auto)]
 
+mod end;
+mod ends;
 mod labels;
 mod store;
 mod tree;

@@ -1,11 +1,12 @@
-ghost use Rattle.std.specs.Prelude.{◌≡◌, ◌<◌, ◌≤◌, ◌↔◌, [], length, vec_capacity, IfOk, IsTrue};
+ghost use Rattle.std.specs.Prelude.{◌≡◌, ◌+◌, ◌<◌, ◌≤◌, ◌↔◌, [], length, vec_capacity, IfOk, IsTrue};
 ghost use Rattle.forest.specs.Edges.{Fit, Joined, Sound, edge, wire};
 ghost use Rattle.forest.specs.Growth.{Grows, LeastOf, head_of};
 ghost use Rattle.forest.specs.Rooted.{Forest};
+ghost use Rattle.seed.specs.Ended.{Listed};
 ghost use Rattle.seed.specs.Labelled.{Labelled};
-ghost use Rattle.seed.specs.Steps.{Across};
 ghost use Rattle.seed.specs.declared.store.TheConstants.{NODES};
 
+use crate::ends::Ends;
 use crate::labels::Labels;
 use forest::Edge;
 use std::alloc::{AllocError, Global};
@@ -40,11 +41,14 @@ pub enum SeedFault {
 pub struct Seed {
     edges: Vec<Edge>,
     labels: Labels,
+    ends: Ends,
     ghost few: { length labels.of.items ≤ NODES },
     ghost room: { NODES ≤ vec_capacity edges },
     ghost fewer: { length edges.items ≤ length labels.of.items },
     ghost sound: { Sound (length labels.of.items) edges.items },
     ghost labelled: { Labelled edges.items labels.of.items },
+    ghost paired: { length ends.sorted.items ≡ length edges.items + length edges.items },
+    ghost listed: { ∥ Listed edges.items ends.sorted.items ∥₁ },
 }
 
 impl Model for Seed {
@@ -72,7 +76,12 @@ impl Seed {
     {
         let edges = Vec::with_capacity(heap, NODES)?;
         let labels = Labels::new(heap)?;
-        Ok(Seed { edges, labels })
+        let ends = Ends::new(heap)?;
+        Ok(Seed {
+            edges,
+            labels,
+            ends,
+        })
     }
 
     /// Adds a node and answers its number; `None` where there are `NODES` nodes.
@@ -88,7 +97,8 @@ impl Seed {
     }
 
     /// Takes an edge of `length` between `a` and `b`. Refused, with the seed as it was: first where a number is no node, then where
-    /// the ends are joined already, then where the length is 0, then where it is above `LONGEST`. Costs a pass over the nodes.
+    /// the ends are joined already, then where the length is 0, then where it is above `LONGEST`. Costs a pass over the nodes and one over
+    /// the edges.
     pub fn join(&mut self, a: usize, b: usize, length: u64) -> Result<(), SeedFault>
         ensures { EdgeAsked self.old a b length result self.new }
     {
@@ -112,19 +122,14 @@ impl Seed {
         requires { Fit self.old.nodes self.old.edges (edge a b length) }
         ensures { OneMore self.old (edge a b length) self.new }
     {
-        self.edges.push_reserved(Edge { a, b, length });
+        let edge = Edge { a, b, length };
+        self.edges.push_reserved(edge);
         self.labels.join(a, b);
+        self.ends.join(edge);
     }
 
-    /// Drops all edges; the nodes stay.
-    pub fn drop_edges(&mut self)
-        ensures edges { self.new.edges ≡ [] }
-        ensures nodes { self.new.nodes ≡ self.old.nodes }
-    {
-        self.clear(self.nodes());
-    }
-
-    /// Starts again with `n` nodes and no edges; refused, with the seed as it was, where `n` is above `NODES`.
+    /// Starts again with `n` nodes and no edges; refused, with the seed as it was, where `n` is above `NODES`. Where there were no edges, it
+    /// costs nothing for a node that stays.
     pub fn restart(&mut self, n: usize) -> Result<(), SeedFault>
         ensures { Restarted self.old n result self.new }
     {
@@ -140,8 +145,9 @@ impl Seed {
         ensures edges { self.new.edges ≡ [] }
         ensures nodes { self.new.nodes ≡ n }
     {
+        self.labels.restart(n, self.edges.is_empty());
         self.edges.clear();
-        self.labels.restart(n);
+        self.ends.clear();
     }
 
     /// How many nodes there are.
@@ -180,28 +186,14 @@ impl Seed {
     }
 
     /// The least neighbour of `v` that is at least `next` and is not `from`, with the length of its edge: the first child of `v` that is
-    /// at least `next`, where `v` was entered from `from`. Costs a pass over the edges.
+    /// at least `next`, where `v` was entered from `from`. Costs a search by halves over the edges.
     pub fn neighbour(&self, v: usize, from: usize, next: usize) -> Option<(usize, u64)>
         ensures least { LeastOf self.now.edges v from next result }
         ensures head { (F : Forest) → Grows self.now.edges v from next F → result ≡ head_of F }
     {
-        self.edges
-            .iter()
-            .filter_map(|edge| across(edge, v).map(|u| (u, edge.length)))
-            .filter(|(u, _)| *u != from && *u >= next)
-            .min_by_key(|(u, _)| *u)
-    }
-}
-
-/// The node across the edge from `v`.
-fn across(edge: &Edge, v: usize) -> Option<usize>
-    ensures { Across edge.now v result }
-{
-    if edge.a == v {
-        Some(edge.b)
-    } else if edge.b == v {
-        Some(edge.a)
-    } else {
-        None
+        if v >= self.nodes() {
+            return None;
+        }
+        self.ends.least(v, from, next)
     }
 }

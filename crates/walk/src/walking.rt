@@ -17,7 +17,7 @@ impl Walk {
     /// Walks over the seed from node 0, the driver, and leaves in each row what the walk makes of its node. The sinks are the nodes from
     /// 1 to `pins` - 1, and the others are Steiner points; any number is taken, so that from 0 or 1 pins there are no sinks, and from more
     /// pins than nodes every node but the driver is one. What an earlier walk left is forgotten first. Refused, with the walk as it was,
-    /// where there is not one row for each of the seed's nodes. Costs two passes over the edges for each edge.
+    /// where there is not one row for each of the seed's nodes. Costs two searches by halves over the edges for each edge.
     pub fn walk(
         &mut self,
         tree: &SeedTree<'_>,

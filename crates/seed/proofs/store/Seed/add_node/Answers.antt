@@ -19,7 +19,7 @@ invariant_of-self-inside c =
         s.room,
         (
           omega (arith, q, s.fewer),
-          (sound_wider n m E (omega (arith, q)) s.sound, (subst (Labelled E) (sym c.add.ensures) (labelled_add E s.labels.of.items own s.labelled), tt)),
+          (sound_wider n m E (omega (arith, q)) s.sound, (subst (Labelled E) (sym c.add.ensures) (labelled_add E s.labels.of.items own s.labelled), (s.paired, (s.listed, tt)))),
         ),
       ),
     )

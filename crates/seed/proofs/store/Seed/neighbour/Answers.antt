@@ -1,23 +1,26 @@
-use Rattle.std.proofs.Common.{rules, tests}
-use Rattle.std.proofs.lemmas.Iterator.{YieldsList-from_slice}
-use Rattle.std.proofs.lemmas.Iterator.Consumers.{YieldsList-at, YieldsList-from_filter, YieldsList-from_filter_map}
+use Rattle.std.proofs.Common.{None, subst, arith}
+use Rattle.std.proofs.Math.Logic.{∥∥₁_map}
 use Rattle.forest.specs.Growth.{LeastOf}
-use Rattle.forest.proofs.Accepted.{accepted}
+use Rattle.forest.proofs.Accepted.{accepted, near_below}
+use Rattle.forest.proofs.Chains.{near_back}
 use Rattle.forest.proofs.Nearest.{least_of_head}
-use Rattle.seed.proofs.Stepping.{across_end, counts, first_by_key, first_least, step}
+use Rattle.seed.specs.SeedValue.{SeedValue}
+use Rattle.seed.proofs.Listing.{least_found}
 use Rattle.seed.proofs.store.Seed.neighbour.Goals as goal
+
+pub returns-then-v-nodes : goal.returns-then-v-nodes
+returns-then-v-nodes c =
+    let s = c.args.self.now in
+    let E = s.edges in
+    let a = accepted s.nodes E s.sound in
+    let least : LeastOf E c.args.v c.args.from c.args.next None = λ x k near low ne. omega (arith, near_below a (near_back near), c.nodes.ensures, c.if-v-nodes.true) in
+    record { least = least; head = λ F g. least_of_head a c.args.v c.args.from c.args.next F None g least }
 
 pub returns : goal.returns
 returns c =
     let s = c.args.self.now in
     let E = s.edges in
-    let least : LeastOf E c.args.v c.args.from c.args.next c.min_by_key.result =
-    first_least E c.args.v c.args.from c.args.next c.min_by_key.result
-    (first_by_key (λ p. p.0) (λ x k q h. search (rules, tests)) c.filter.result c.min_by_key.result c.min_by_key.ensures.runs
-    (YieldsList-from_filter _ (counts c.args.from c.args.next)
-    (YieldsList-at c.filter.ensures.source
-    (YieldsList-from_filter_map _ (step c.args.v) (YieldsList-at c.filter_map.ensures.source (YieldsList-from_slice E cc)) c.filter_map.ensures.closure (λ x r q k. search (rules, tests, across_end))))
-    c.filter.ensures.closure
-    (λ x r q k. search (rules, tests))))
-    in
-    record { least = least; head = λ F g. least_of_head (accepted (s.nodes) E s.sound) c.args.v c.args.from c.args.next F c.min_by_key.result g least }
+    let r = c.least.result in
+    let P : SeedValue → Type 0 = λ x. ∥ LeastOf x.edges c.args.v c.args.from c.args.next r ∥₁ in
+    let least : LeastOf E c.args.v c.args.from c.args.next r = least_found E c.args.v c.args.from c.args.next r (subst P c.self.view_is (∥∥₁_map c.self.inside.listed (c.least.ensures c.self.inside.edges.items))) in
+    record { least = least; head = λ F g. least_of_head (accepted s.nodes E s.sound) c.args.v c.args.from c.args.next F r g least }
