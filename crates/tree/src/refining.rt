@@ -1,4 +1,4 @@
-ghost use Rattle.std.specs.Prelude.{◌≡◌, ◌<◌, ◌≤◌, length, vec_capacity};
+ghost use Rattle.std.specs.Prelude.{◌≡◌, ◌+◌, ◌<◌, ◌≤◌, length, vec_capacity};
 ghost use Rattle.order.specs.Bests.{BestOf};
 ghost use Rattle.tree_laws.specs.Distances.{Measured};
 ghost use Rattle.tree_laws.specs.Hooks.{hook_before};
@@ -20,13 +20,14 @@ pub struct Refiner {
     ghost room: { ROWS ≤ vec_capacity paths },
 }
 
-/// The moves of one row, and the firsts of the rows before it.
+/// The moves of one row, the firsts of the rows before it, and the most that one of these saves, or 1.
 #[derive(Drop)]
 struct Moves {
     row: Vec<Hook>,
     firsts: Vec<Hook>,
+    floor: u64,
     ghost row_room: { ROWS ≤ vec_capacity row },
-    ghost firsts_room: { ROWS ≤ vec_capacity firsts },
+    ghost firsts_room: { ROWS + ROWS ≤ vec_capacity firsts },
 }
 
 impl Refiner {
@@ -34,8 +35,12 @@ impl Refiner {
     pub fn new(heap: Global) -> Result<Refiner, AllocError> {
         let paths = Vec::with_capacity(heap, ROWS)?;
         let row = Vec::with_capacity(heap, ROWS)?;
-        let firsts = Vec::with_capacity(heap, ROWS)?;
-        let moves = Moves { row, firsts };
+        let firsts = Vec::with_capacity(heap, 2 * ROWS)?;
+        let moves = Moves {
+            row,
+            firsts,
+            floor: 1,
+        };
         Ok(Refiner { paths, moves })
     }
 }
@@ -49,7 +54,7 @@ struct HookSearch<'a, S: Space> {
     ghost known: { Paths table.now.rows paths.now },
 }
 
-/// The row `v` of a tree, whose moves are asked for: those that save more than `floor`.
+/// The row `v` of a tree, whose moves are asked for: those that save `floor` or more.
 #[derive(Clone, Copy)]
 struct Hanging {
     v: usize,
@@ -61,7 +66,7 @@ struct Hanging {
 
 impl<'a, S: Space> HookSearch<'a, S> {
     ghost use Rattle.order.specs.Bests.{Found};
-    ghost use Rattle.tree.specs.Searches.{HangsIn, HookMoveAt, HookMoveIn, HookMoveOf};
+    ghost use Rattle.tree.specs.Searches.{Firsts, HangsIn, HookMoveAt, HookMoveIn, HookMoveOf, Looked};
 
     /// The move of a row on `u`, where it is one.
     fn weigh(&self, of: Hanging, u: usize) -> Option<Hook>
@@ -74,7 +79,7 @@ impl<'a, S: Space> HookSearch<'a, S> {
             return None;
         }
         let new = capped_distance(self.space, self.table.at(u).spot, of.spot);
-        if new + of.floor >= of.length || path + new > of.path {
+        if new + of.floor > of.length || path + new > of.path {
             return None;
         }
         // A row below `v` has no shorter path.
@@ -101,15 +106,16 @@ impl<'a, S: Space> HookSearch<'a, S> {
         }
     }
 
-    /// The first move of the row `v` that saves more than `floor`. A move saves at most the row's length.
+    /// The first move of the row `v` that saves `floor` or more. A move saves at most the row's length.
     fn first_of_row(&self, v: usize, floor: u64, moves: &mut Vec<Hook>) -> Option<Hook>
         requires row { v < length self.now.table.now.rows }
+        requires some { 0 < floor }
         requires room { ROWS ≤ vec_capacity moves.old }
         ensures best { BestOf hook_before (HookMoveOf S.Space self.now v floor) result }
         ensures room { vec_capacity moves.new ≡ vec_capacity moves.old }
     {
         let row = self.table.at(v);
-        if row.length <= floor {
+        if row.length < floor {
             return None;
         }
         let of = Hanging {
@@ -123,18 +129,36 @@ impl<'a, S: Space> HookSearch<'a, S> {
         first(moves.as_slice())
     }
 
-    /// The first of all moves: the first of each row, where it saves more than the rows before, and then the first of these.
+    /// Finds the first move of each row that is longer than `half`, or of each other row, where it saves no less than one found before.
+    fn look(&self, long: bool, half: u64, moves: &mut Moves)
+        requires found { Firsts S.Space self.now moves.old.firsts.items moves.old.floor }
+        requires room { length moves.old.firsts.items + length self.now.table.now.rows ≤ ROWS + ROWS }
+        ensures found { Firsts S.Space self.now moves.new.firsts.items moves.new.floor }
+        ensures looked { Looked S.Space self.now long half moves.old.firsts.items
+            moves.new.firsts.items }
+        ensures few { length moves.new.firsts.items
+            ≤ length moves.old.firsts.items + length self.now.table.now.rows }
+    {
+        for v in 0..self.table.len() {
+            if (self.table.at(v).length > half) == long {
+                if let Some(hook) = self.first_of_row(v, moves.floor, &mut moves.row) {
+                    moves.floor = hook.saving;
+                    moves.firsts.push_reserved(hook);
+                }
+            }
+        }
+    }
+
+    /// The first of all moves: the first of each row, and then the first of these. The longer rows are looked at first, since what they save
+    /// leaves out others.
     fn best(&self, moves: &mut Moves) -> Option<Hook>
         ensures { BestOf hook_before (HookMoveIn S.Space self.now) result }
     {
-        let mut floor = 0;
         moves.firsts.clear();
-        for v in 0..self.table.len() {
-            if let Some(hook) = self.first_of_row(v, floor, &mut moves.row) {
-                floor = hook.saving;
-                moves.firsts.push_reserved(hook);
-            }
-        }
+        moves.floor = 1;
+        let half = self.table.longest() / 2;
+        self.look(true, half, moves);
+        self.look(false, half, moves);
         first(moves.firsts.as_slice())
     }
 }

@@ -114,6 +114,11 @@ impl Tree {
         self.rows.as_slice()
     }
 
+    /// The greatest length of a row.
+    pub(crate) fn longest(&self) -> u64 {
+        self.rows.iter().map(|row| row.length).max().unwrap_or(0)
+    }
+
     /// The path of the row `k`, the sum of the lengths on the one way from the driver down to it; nothing where there is no such row. Costs
     /// a turn for each row on the way.
     pub fn path(&self, k: usize) -> Option<u64>

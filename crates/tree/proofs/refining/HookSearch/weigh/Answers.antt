@@ -32,12 +32,12 @@ returns g c =
     let new : c.capped_distance-new.result ≡ d u v = search rules in
     let move : HookMove t.rows d m =
     record {
-      hangs = record { row = of.row; moves = λ z. omega (arith, of.more, of.long, t.tree.still, ap (row_length t.rows) z); parent = c.requires.parent; above = above };
+      hangs = record { row = of.row; moves = λ z. omega (arith, of.some, of.more, of.long, t.tree.still, ap (row_length t.rows) z); parent = c.requires.parent; above = above };
       path = omega (arith, known, of.path, new, c.if-path-new.false);
       saves = omega (arith, of.long, new, c.if-new-of.false);
-      counts = omega (arith, of.long, new, c.if-new-of.false);
+      counts = omega (arith, of.some, of.more, of.long, new, c.if-new-of.false);
     } in (
-      ((move, refl, omega (arith, c.if-new-of.false)), refl),
+      ((move, refl, omega (arith, of.more, c.if-new-of.false)), refl),
       λ n p.
           let on : d n.u n.v ≡ d u v = ap (λ x. d x n.v) p.1 ∙ ap (d u) p.0.1 in
           let long : row_length t.rows n.v ≡ row_length t.rows v = ap (row_length t.rows) p.0.1 in
