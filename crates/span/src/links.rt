@@ -9,7 +9,7 @@ ghost use Rattle.span.specs.Growth.{better, elsewhere, fan, offered_link};
 use crate::pins::Pins;
 use search::first;
 use seed::NODES;
-use space::Space;
+use space::{Space, spot_of};
 use span_laws::Link;
 use std::alloc::{AllocError, Global};
 
@@ -64,8 +64,9 @@ impl Links {
     pub(crate) fn offer<S: Space>(&mut self, pins: &Pins<S>, u: usize)
         ensures { self.new.outside.items ≡ map (offered_link (lengths_of pins.now) u) self.old.outside.items }
     {
+        let from = spot_of(pins.spots, u);
         for old in self.outside.iter_mut() {
-            *old = nearer(*old, pins.link(u, old.v));
+            *old = nearer(*old, pins.link_from(u, from, old.v));
         }
     }
 }

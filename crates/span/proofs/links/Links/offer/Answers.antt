@@ -15,5 +15,5 @@ loop-old-preserved g c =
     let none : Link = record { length = 0; u = 0; v = 0 } in
     let x : Link = get_or ys i none in
     let h : i < length xs = omega (arith, c.loop-old-test.true) in
-    let value : c.nearer.result ≡ f x = c.nearer.ensures ∙ ap (better x) c.link.ensures in
+    let value : c.nearer.result ≡ f x = c.nearer.ensures ∙ ap (better x) c.link_from.ensures in
     ap (set ys i) value ∙ map_over_more f xs ys i x h c.loop-old.invariant (get_or_default ys i none x (omega (arith, h, c.loop-old.auto.old-items)))
