@@ -59,7 +59,7 @@ impl Spanner {
             return Err(SeedFault::Outside);
         };
         seed.join(nearest.u, nearest.v, nearest.length)?;
-        self.links.forget(nearest.v);
+        self.links.forget(nearest);
         self.links.offer(pins, nearest.v);
         Ok(())
     }

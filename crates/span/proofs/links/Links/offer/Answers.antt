@@ -1,9 +1,13 @@
-use Rattle.std.proofs.Common.{◌≡◌, ◌<◌, length, get_or, set, ap, ◌∙◌, arith}
+use Rattle.std.proofs.Common.{◌≡◌, ◌<◌, map, length, get_or, set, sym, ap, ◌∙◌, subst, vec_items, arith}
+use Rattle.std.specs.Vec.{with_items}
+use Rattle.std.proofs.lemmas.Grind.{common_steps}
 use Rattle.std.proofs.lemmas.List.{get_or_default}
 use Rattle.std.proofs.lemmas.List.Edits.{map_over_more}
 use Rattle.span_laws.specs.declared.link.Link.{Link}
 use Rattle.span.specs.Measured.{lengths_of}
-use Rattle.span.specs.Growth.{better, offered_link}
+use Rattle.span.specs.Growth.{Rising, better, offered_link}
+use Rattle.span.proofs.Firsts.{better_pin}
+use Rattle.span.proofs.Outside.{rising_map}
 use Rattle.span.proofs.links.Links.offer.Goals as goal
 
 pub loop-old-preserved : goal.loop-old-preserved
@@ -17,3 +21,11 @@ loop-old-preserved g c =
     let h : i < length xs = omega (arith, c.loop-old-test.true) in
     let value : c.nearer.result ≡ f x = c.nearer.ensures ∙ ap (better x) c.link_from.ensures in
     ap (set ys i) value ∙ map_over_more f xs ys i x h c.loop-old.invariant (get_or_default ys i none x (omega (arith, h, c.loop-old.auto.old-items)))
+
+pub invariant_of-self-clause-rises : goal.invariant_of-self-clause-rises
+invariant_of-self-clause-rises g c =
+    let s = c.args.self.now in
+    let d = lengths_of c.args.pins.now in
+    let f = offered_link d c.args.u in
+    let e : vec_items (with_items s.outside c.loop-old.old-items) ≡ map f s.outside.items = grind (arith, common_steps) in
+    subst Rising (sym e) (rising_map f (λ x. better_pin x d c.args.u) s.outside.items s.rises)
