@@ -1,5 +1,5 @@
 // The first link of each pin that is still outside.
-ghost use Rattle.std.specs.Prelude.{◌≡◌, ◌-◌, ◌≤◌, [], map, length, vec_capacity, filter, IfOk};
+ghost use Rattle.std.specs.Prelude.{◌≡◌, ◌-◌, ◌<◌, ◌≤◌, All, [], map, length, vec_capacity, filter, IfOk};
 ghost use Rattle.seed.specs.declared.store.TheConstants.{NODES};
 ghost use Rattle.std.specs.Bool.{nat_lt};
 ghost use Rattle.order.specs.Firsts.{Among, FirstOf};
@@ -70,6 +70,7 @@ impl Links {
 
     /// Compares the first link of each pin outside with the one from `u`, the newest pin inside.
     pub(crate) fn offer<S: Space>(&mut self, pins: &Pins<S>, u: usize)
+        requires { All (λ x. x.v < length pins.now.spots.now) self.old.outside.items }
         ensures { self.new.outside.items ≡ map (offered_link (lengths_of pins.now) u) self.old.outside.items }
     {
         let from = spot_of(pins.spots, u);

@@ -2,6 +2,7 @@ use Rattle.std.proofs.Common.{◌≡◌, ◌<◌, map, length, get_or, set, sym,
 use Rattle.std.specs.Vec.{with_items}
 use Rattle.std.proofs.lemmas.Grind.{common_steps}
 use Rattle.std.proofs.lemmas.List.{get_or_default}
+use Rattle.std.proofs.lemmas.List.Elements.{All-set}
 use Rattle.std.proofs.lemmas.List.Edits.{map_over_more}
 use Rattle.span_laws.specs.declared.link.Link.{Link}
 use Rattle.span.specs.Measured.{lengths_of}
@@ -20,7 +21,12 @@ loop-old-preserved g c =
     let x : Link = get_or ys i none in
     let h : i < length xs = omega (arith, c.loop-old-test.true) in
     let value : c.nearer.result ≡ f x = c.nearer.ensures ∙ ap (better x) c.link_from.ensures in
-    ap (set ys i) value ∙ map_over_more f xs ys i x h c.loop-old.invariant (get_or_default ys i none x (omega (arith, h, c.loop-old.auto.old-items)))
+    let one : c.nearer.result.v < length c.args.pins.now.spots.now =
+    omega (arith, ap (λ (y : Link). y.v) value, better_pin x (lengths_of c.args.pins.now) c.args.u, c.loop-old.invariant.1 i none (omega (arith, h, c.loop-old.auto.old-items)))
+    in (
+      ap (set ys i) value ∙ map_over_more f xs ys i x h c.loop-old.invariant.0 (get_or_default ys i none x (omega (arith, h, c.loop-old.auto.old-items))),
+      All-set (λ (y : Link). y.v < length c.args.pins.now.spots.now) ys i c.nearer.result one c.loop-old.invariant.1,
+    )
 
 pub invariant_of-self-clause-rises : goal.invariant_of-self-clause-rises
 invariant_of-self-clause-rises g c =
