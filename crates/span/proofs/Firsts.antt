@@ -49,7 +49,7 @@ old_after x y = better_cases (λ z. link_before x z ≡ false) x y (link_order.o
 new_after : (x y : Link) → link_before y (better x y) ≡ false
 new_after x y = better_cases (λ z. link_before y z ≡ false) x y (λ _. never_itself link_order y) (λ e. e)
 
-better_pin : (x : Link) (d : ℕ → ℕ → ℕ) (u : ℕ) → (offered_link d u x).v ≡ x.v
+pub better_pin : (x : Link) (d : ℕ → ℕ → ℕ) (u : ℕ) → (offered_link d u x).v ≡ x.v
 better_pin x d u = better_cases (λ z. z.v ≡ x.v) x (link d u x.v) (λ _. refl) (λ _. refl)
 
 -- ---- lists of links

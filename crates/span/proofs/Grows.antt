@@ -1,10 +1,13 @@
 -- What each call keeps while a spanning seed grows, and what it is in the end. Assumes nothing.
-use Rattle.std.proofs.Common.{◌≡◌, ℕ, ◌+◌, ◌<◌, ◌≤◌, min, max, Bool, true, false, List, [], ◌∷◌, ◌++◌, map, length, filter, Result, Err, is_ok, unwrap_or, sym, refl, ap, ◌∙◌, subst, arith}
-use Rattle.std.proofs.lemmas.List.{length_push}
+use Rattle.std.proofs.Common.{◌≡◌, ℕ, ◌+◌, ◌<◌, ◌≤◌, min, max, Bool, true, false, List, [], ◌∷◌, ◌++◌, map, length, get_or, filter, Result, Err, is_ok, unwrap_or, sym, refl, ap, ◌∙◌, subst, arith}
+use Rattle.std.specs.List.{All}
+use Rattle.std.proofs.lemmas.List.{get_or_default, length_push}
+use Rattle.std.proofs.lemmas.List.Elements.{All-filter}
 use Rattle.std.proofs.lemmas.Bool.{and_from, both_ways}
 use Rattle.space.specs.declared.TheConstants.{LONGEST}
 use Rattle.seed.specs.declared.store.TheConstants.{NODES}
 use Rattle.order.specs.Firsts.{First}
+use Rattle.order.proofs.Finding.{among_at}
 use Rattle.span_laws.specs.Links.{link_before}
 use Rattle.span_laws.specs.declared.link.Link.{Link}
 use Rattle.forest.specs.Edges.{wire, edge}
@@ -49,6 +52,12 @@ pub step_none : (n : ℕ) (d : ℕ → ℕ → ℕ) (t : Seed) (F : List Link) �
 step_none n d t F e g h =
     let P : List Link → Type 0 = λ L. FirstLinks n d t.edges L in
     omega (arith, firsts_none n d t.edges (seed_accepted n t g.nodes) (omega arith) (subst P e g.firsts))
+
+-- the pins outside are pins
+pub outside_within : (n : ℕ) (d : ℕ → ℕ → ℕ) (t : Seed) (F : List Link) (v : ℕ) → Growing n d t F → All (λ x. x.v < n) (filter (elsewhere v) F)
+outside_within n d t F v g =
+    All-filter (elsewhere v) (λ (x : Link). x.v < n) F
+    (λ k x h. let y = get_or F k x in (g.firsts.pairs y (among_at F k y h (get_or_default F k x y h))).outer)
 
 -- one step: the first of the firsts is taken as an edge
 module _ (n : ℕ) (d : ℕ → ℕ → ℕ) (fair : Fair d) (t u : Seed) (F : List Link) (g : Growing n d t F) (w : Link) (f : First link_before F w) (r : Result (Unit {0}) SeedFault) (asked : EdgeAsked t w.u w.v w.length r u) where

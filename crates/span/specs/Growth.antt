@@ -1,5 +1,5 @@
 -- What is kept while a spanning seed grows: the first link of each pin that is still outside. Assumes nothing.
-use Rattle.std.specs.Prelude.{◌≡◌, ℕ, zero, suc, ◌<◌, Bool, false, cond, not, List, [], ◌∷◌, ◌++◌, ◌==◌}
+use Rattle.std.specs.Prelude.{◌≡◌, ℕ, zero, suc, ◌<◌, Bool, false, cond, not, List, [], ◌∷◌, ◌++◌, ◌==◌, length, slice_index_or}
 use Rattle.order.specs.Firsts.{Among}
 use Rattle.forest.specs.Edges.{Joined}
 use Rattle.forest.specs.declared.Edge.{Edge}
@@ -10,6 +10,10 @@ use Rattle.span_laws.specs.declared.link.Link.{Link}
 -- A link of another outer pin than v.
 abbrev pub elsewhere : ℕ → Link → Bool
 elsewhere v x = not (x.v == v)
+
+-- The links in ascending number of their outer pins, one for each of these.
+abbrev pub Rising : List Link → Type 0
+Rising F = (i j : ℕ) (x : Link) → i < j → j < length F → (slice_index_or F i x).v < (slice_index_or F j x).v
 
 -- The first of two links.
 abbrev pub better : Link → Link → Link

@@ -26,7 +26,7 @@ impl Spanner {
     }
 
     /// Grows the spanning seed of the pins in place of what the seed had, and answers its wire. Refused, with the seed as it was, where there
-    /// is no pin or there are more than `NODES`. For n pins it measures about n times n / 2 distances.
+    /// is no pin or there are more than `NODES`. For n pins it measures n times (n - 1) / 2 distances.
     pub fn grow<S: Space>(
         &mut self,
         space: &S,
@@ -59,7 +59,7 @@ impl Spanner {
             return Err(SeedFault::Outside);
         };
         seed.join(nearest.u, nearest.v, nearest.length)?;
-        self.links.forget(nearest.v);
+        self.links.forget(nearest);
         self.links.offer(pins, nearest.v);
         Ok(())
     }

@@ -1,15 +1,16 @@
 // The first link of each pin that is still outside.
-ghost use Rattle.std.specs.Prelude.{◌≡◌, ◌-◌, ◌≤◌, [], map, length, vec_capacity, filter, IfOk};
+ghost use Rattle.std.specs.Prelude.{◌≡◌, ◌-◌, ◌<◌, ◌≤◌, All, [], map, length, vec_capacity, filter, IfOk};
 ghost use Rattle.seed.specs.declared.store.TheConstants.{NODES};
-ghost use Rattle.order.specs.Firsts.{FirstOf};
+ghost use Rattle.std.specs.Bool.{nat_lt};
+ghost use Rattle.order.specs.Firsts.{Among, FirstOf};
 ghost use Rattle.span_laws.specs.Links.{link_before};
 ghost use Rattle.span.specs.Measured.{lengths_of};
-ghost use Rattle.span.specs.Growth.{better, elsewhere, fan, offered_link};
+ghost use Rattle.span.specs.Growth.{Rising, better, elsewhere, fan, offered_link};
 
 use crate::pins::Pins;
 use search::first;
 use seed::NODES;
-use space::Space;
+use space::{Space, spot_of};
 use span_laws::Link;
 use std::alloc::{AllocError, Global};
 
@@ -25,6 +26,7 @@ fn nearer(old: Link, new: Link) -> Link
 pub(crate) struct Links {
     outside: Vec<Link>,
     ghost room: { NODES ≤ vec_capacity outside },
+    ghost rises: { Rising outside.items },
 }
 
 impl Links {
@@ -53,19 +55,27 @@ impl Links {
         }
     }
 
-    /// Leaves out the links of the pin `v`, which is inside now.
-    pub(crate) fn forget(&mut self, v: usize)
-        ensures { self.new.outside.items ≡ filter (elsewhere v) self.old.outside.items }
+    /// Leaves out the link of a pin that is inside now.
+    pub(crate) fn forget(&mut self, link: Link)
+        requires { Among link self.old.outside.items }
+        ensures { self.new.outside.items ≡ filter (elsewhere link.v) self.old.outside.items }
     {
-        self.outside.retain(|link| link.v != v);
+        let at = self.outside.as_slice().partition_point(
+            |other: &Link| -> bool
+                ensures { result ≡ nat_lt other.now.v link.v }
+            { other.v < link.v },
+        );
+        self.outside.remove(at);
     }
 
     /// Compares the first link of each pin outside with the one from `u`, the newest pin inside.
     pub(crate) fn offer<S: Space>(&mut self, pins: &Pins<S>, u: usize)
+        requires { All (λ x. x.v < length pins.now.spots.now) self.old.outside.items }
         ensures { self.new.outside.items ≡ map (offered_link (lengths_of pins.now) u) self.old.outside.items }
     {
+        let from = spot_of(pins.spots, u);
         for old in self.outside.iter_mut() {
-            *old = nearer(*old, pins.link(u, old.v));
+            *old = nearer(*old, pins.link_from(u, from, old.v));
         }
     }
 }

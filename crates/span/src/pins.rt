@@ -1,5 +1,6 @@
 // The pins of a net in a space, and how far apart they are.
-ghost use Rattle.std.specs.Prelude.{◌≡◌, ◌≤◌, length};
+ghost use Rattle.std.specs.Prelude.{◌≡◌, ◌<◌, ◌≤◌, length};
+ghost use Rattle.space.specs.Spots.{spot_of};
 ghost use Rattle.seed.specs.declared.store.TheConstants.{NODES};
 
 use space::{Space, Spot, edge_length, spot_of};
@@ -21,9 +22,19 @@ impl<'a, S: Space> Pins<'a, S> {
 
     /// The link of two pins.
     pub(crate) fn link(&self, u: usize, v: usize) -> Link
+        requires { v < length self.now.spots.now }
         ensures { result ≡ linkBetween (lengths_of self.now) u v }
     {
-        let length = edge_length(self.space, spot_of(self.spots, u), spot_of(self.spots, v));
+        self.link_from(u, spot_of(self.spots, u), v)
+    }
+
+    /// The link of two pins, where the spot of `u` is known.
+    pub(crate) fn link_from(&self, u: usize, from: Spot, v: usize) -> Link
+        requires from { from ≡ spot_of self.now.spots.now u }
+        requires v { v < length self.now.spots.now }
+        ensures { result ≡ linkBetween (lengths_of self.now) u v }
+    {
+        let length = edge_length(self.space, from, self.spots[v]);
         Link { length, u, v }
     }
 }
