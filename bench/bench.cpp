@@ -54,8 +54,8 @@ std::uint64_t rows_of(const N& net) {
   for (std::size_t k = 0; k < count.value; ++k) {
     const auto row = net.row(k).value;
     sum = mixed(sum, row.parent);
-    sum = mixed(sum, static_cast<std::uint64_t>(static_cast<std::int64_t>(row.spot.x)));
-    sum = mixed(sum, static_cast<std::uint64_t>(static_cast<std::int64_t>(row.spot.y)));
+    sum = mixed(sum, static_cast<std::uint64_t>(std::abs(row.spot.x)));
+    sum = mixed(sum, static_cast<std::uint64_t>(std::abs(row.spot.y)));
     sum = mixed(sum, static_cast<std::uint64_t>(row.length));
   }
   return sum;

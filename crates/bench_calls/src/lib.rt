@@ -26,8 +26,8 @@ fn rows<S: Space>(net: &Net<S>) -> u64 {
     for k in 0..count {
         if let Ok(row) = net.row(k) {
             sum = mixed(sum, row.parent as u64);
-            sum = mixed(sum, row.spot.x as u64);
-            sum = mixed(sum, row.spot.y as u64);
+            sum = mixed(sum, u64::from(row.spot.x.unsigned_abs()));
+            sum = mixed(sum, u64::from(row.spot.y.unsigned_abs()));
             sum = mixed(sum, row.length);
         }
     }
@@ -52,9 +52,12 @@ fn paths<S: Space>(net: &Net<S>, pins: usize) -> u64 {
 fn wired<S: Space>(net: &mut Net<S>, call: &[i32]) -> u64 {
     match *call {
         [1, x, y, level] => told(net.pin(Spot { x, y, level }).map(|pin| pin as u64)),
-        [2, p, q, _] => told(net.allow(p as u64, q as u64).map(|_| 0)),
+        [2, p, q, _] => told(
+            net.allow(p.unsigned_abs() as u64, q.unsigned_abs() as u64)
+                .map(|_| 0),
+        ),
         [3, x, y, level] => told(net.steiner(Spot { x, y, level }).map(|point| point as u64)),
-        [4, a, b, _] => told(net.edge(a as usize, b as usize)),
+        [4, a, b, _] => told(net.edge(a.unsigned_abs() as usize, b.unsigned_abs() as usize)),
         [5, _, _, _] => {
             net.unseed();
             0
@@ -63,7 +66,7 @@ fn wired<S: Space>(net: &mut Net<S>, call: &[i32]) -> u64 {
         [7, _, _, _] => told(net.straight()),
         [8, _, _, _] => told(net.hook()),
         [9, _, _, _] => rows(net),
-        [10, pins, _, _] => paths(net, pins as usize),
+        [10, pins, _, _] => paths(net, pins.unsigned_abs() as usize),
         _ => 0,
     }
 }
@@ -106,7 +109,14 @@ pub extern "C" fn bench_calls(heap: Global, space: u32, price: u32, calls: &[i32
     match space {
         0 => on_joining(heap, Plane, calls),
         1 => on_wiring(heap, Air, calls),
-        2 => on_joining(heap, Lift { below: Plane, price }, calls),
+        2 => on_joining(
+            heap,
+            Lift {
+                below: Plane,
+                price,
+            },
+            calls,
+        ),
         _ => on_wiring(heap, Lift { below: Air, price }, calls),
     }
 }
