@@ -1,7 +1,7 @@
 use Rattle.std.proofs.Common.{arith, rules}
-use Rattle.decimals.specs.Decimals.{BeginsSigned}
-use Rattle.decimals.proofs.Reading.{begins_signed_not, utf8_signed_not, read_signed}
-use Rattle.decimals.proofs.read_i32.Goals as goal
+use Rattle.request.specs.Decimals.{BeginsSigned}
+use Rattle.request.proofs.Numerals.{begins_signed_not, utf8_signed_not, read_signed}
+use Rattle.request.proofs.decimals.read_i32.Goals as goal
 
 pub returns-then-not-begins_signed : goal.returns-then-not-begins_signed
 returns-then-not-begins_signed c = λ z f e. begins_signed_not z c.args.text.now (omega (arith, f)) (λ p. let yes = c.begins_signed.ensures.1 p in (cc)) e

@@ -1,9 +1,6 @@
-//! Numbers as job text has them: decimal, with no plus, no leading zero and no minus before 0.
-
-#![tactic(auto)]
-
+// Numbers as job text has them: decimal, with no plus, no leading zero and no minus before 0.
 ghost use Rattle.std.specs.Prelude.{◌^◌, ◌↔◌, IsTrue};
-ghost use Rattle.decimals.specs.Decimals.{Begins, BeginsSigned, ReadsBelow, ReadsSigned};
+ghost use Rattle.request.specs.Decimals.{Begins, BeginsSigned, ReadsBelow, ReadsSigned};
 
 /// Whether a text begins as a number does: with no plus, and with a zero only where nothing follows.
 fn begins(text: &[u8]) -> bool
@@ -26,7 +23,7 @@ fn begins_signed(text: &[u8]) -> bool
 }
 
 /// The number that a text writes, in unsigned 32 bits.
-pub fn read_u32(text: &[u8]) -> Option<u32>
+pub(crate) fn read_u32(text: &[u8]) -> Option<u32>
     ensures { ReadsBelow (2 ^ 32) result text.now }
 {
     if !begins(text) {
@@ -39,7 +36,7 @@ pub fn read_u32(text: &[u8]) -> Option<u32>
 }
 
 /// The number that a text writes, in unsigned 16 bits.
-pub fn read_u16(text: &[u8]) -> Option<u16>
+pub(crate) fn read_u16(text: &[u8]) -> Option<u16>
     ensures { ReadsBelow (2 ^ 16) result text.now }
 {
     let n = read_u32(text)?;
@@ -47,7 +44,7 @@ pub fn read_u16(text: &[u8]) -> Option<u16>
 }
 
 /// The number that a text writes, in signed 32 bits.
-pub fn read_i32(text: &[u8]) -> Option<i32>
+pub(crate) fn read_i32(text: &[u8]) -> Option<i32>
     ensures { ReadsSigned result text.now }
 {
     if !begins_signed(text) {

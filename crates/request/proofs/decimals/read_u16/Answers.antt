@@ -1,6 +1,6 @@
 use Rattle.std.proofs.Common.{◌^◌, arith}
-use Rattle.decimals.proofs.Reading.{narrowed}
-use Rattle.decimals.proofs.read_u16.Goals as goal
+use Rattle.request.proofs.Numerals.{narrowed}
+use Rattle.request.proofs.decimals.read_u16.Goals as goal
 
 pub returns : goal.returns
 returns c =

@@ -7,7 +7,7 @@ use Rattle.std.specs.Str.{IsUtf8}
 use Rattle.std.proofs.lemmas.Str.{IsUtf8-from_ascii}
 use Rattle.std.proofs.lemmas.Str.Parse.{IsNumeralModel, numerals_by_value, tells_digits, parse_plain}
 use Rattle.std.proofs.lemmas.Fmt.{decimal_digit, decimal_injective, first_decimal, decimal-digits_value, IsAscii-decimal, parse-decimal}
-use Rattle.decimals.specs.Decimals.{Begins, BeginsSigned, ReadsBelow, ReadsSigned}
+use Rattle.request.specs.Decimals.{Begins, BeginsSigned, ReadsBelow, ReadsSigned}
 use Rattle.std.specs.Fmt.{signed_decimal}
 use Rattle.std.specs.Str.Parse.{ParsesSigned}
 use lib.IntN.{ℤ, pos, negsuc, neg_ℤ}

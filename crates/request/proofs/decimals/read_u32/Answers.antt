@@ -1,7 +1,7 @@
 use Rattle.std.proofs.Common.{arith, rules}
-use Rattle.decimals.specs.Decimals.{Begins}
-use Rattle.decimals.proofs.Reading.{begins_not, utf8_not, read_below}
-use Rattle.decimals.proofs.read_u32.Goals as goal
+use Rattle.request.specs.Decimals.{Begins}
+use Rattle.request.proofs.Numerals.{begins_not, utf8_not, read_below}
+use Rattle.request.proofs.decimals.read_u32.Goals as goal
 
 pub returns-then-not-begins : goal.returns-then-not-begins
 returns-then-not-begins c = λ n l e. begins_not n c.args.text.now (omega arith) (λ p. let yes = c.begins.ensures.1 p in (cc)) e
