@@ -8,9 +8,6 @@ ghost use Rattle.space.specs.declared.TheConstants.{LONGEST};
 ghost use Rattle.seed.specs.declared.store.TheConstants.{NODES};
 ghost use Rattle.cases.specs.Table.{Holds, table};
 
-#[cfg(test)]
-mod tests;
-
 /// Every row of the table in `specs/Table.antt` holds. Answers how many rows there are.
 pub fn worked_cases() -> usize
     ensures every { AllByRecursion Holds table }

@@ -1,3 +1,4 @@
+pub mod Numerals
 mod Lining
 mod Parting
 mod Few

@@ -3,9 +3,9 @@ ghost use Rattle.std.specs.Prelude.{◌≡◌, ◌<◌, ◌^◌, [], ◌∷◌, 
 ghost use Rattle.request.specs.Requests.{FirstBad, RangedSpot, spot_fields, word_of};
 ghost use Rattle.request.specs.Requests.Sort.{coordinate, price as priced, small, word as worded};
 
+use crate::decimals::{read_i32, read_u16, read_u32};
 use crate::fault::Unread;
 use crate::requests::Word;
-use decimals::{read_i32, read_u16, read_u32};
 use space::Spot;
 
 /// The space that field 2 names.

@@ -3,6 +3,7 @@
 #![tactic(auto)]
 
 mod cutting;
+mod decimals;
 mod fault;
 mod fields;
 mod reading;

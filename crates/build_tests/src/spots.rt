@@ -1,5 +1,0 @@
-use space::Spot;
-
-pub(crate) fn at(x: i32, y: i32) -> Spot {
-    Spot { x, y, level: 0 }
-}
