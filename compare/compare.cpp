@@ -1,5 +1,11 @@
-// compare [N [S]]: runs N generated jobs from the seed S on by second::run and by the first engine's C call, in one process, and compares
-// all that comes out. The first difference is printed, and ends it with status 1.
+// Runs generated jobs by both engines and compares all that comes out. The first difference is printed, and ends it with status 1.
+//
+//   compare [N [S]]                    N jobs from the seed S on, by the C call in one process, with outputs of many lengths
+//   compare --program PATH [N [S]]     the same jobs by the program saltjob at PATH, which reads 65,536 bytes and writes as many
+//   compare --write FOLDER [N [S]]     writes the same jobs and the answers of the second engine into the folder, as `rt try --cases` takes them
+#include <unistd.h>
+
+#include <algorithm>
 #include <cinttypes>
 #include <cstdio>
 #include <cstdlib>
@@ -14,7 +20,7 @@
 
 namespace {
 
-constexpr std::uint64_t kJobs = 10000;  // from so many on, every refusal has to be seen
+constexpr std::uint64_t kJobs = 3000;   // from so many on, every refusal has to be seen
 constexpr std::size_t kGuard = 64;      // bytes behind the output that nobody may write
 
 using Bytes = std::vector<unsigned char>;
@@ -25,12 +31,13 @@ struct Ran {
   Bytes out;  // with the guard
 };
 
-void fill(Bytes& out, std::uint64_t pattern) {
+[[maybe_unused]] void fill(Bytes& out, std::uint64_t pattern) {
   jobs::Random r(pattern);
   for (std::size_t i = 0; i < out.size(); ++i) out[i] = static_cast<unsigned char>(r.next());
 }
 
 // Both runs are given the same room, filled with the same pattern.
+#ifndef PROGRAM_ONLY
 Ran run_first(const std::string& job, std::size_t room, const Bytes& pattern) {
   Ran ran{0, 0, 0, Bytes(pattern.begin(), pattern.begin() + static_cast<std::ptrdiff_t>(room + kGuard))};
   const std::vector<std::uint8_t> text(job.begin(), job.end());
@@ -41,6 +48,7 @@ Ran run_first(const std::string& job, std::size_t room, const Bytes& pattern) {
   ran.stop = o.stop;
   return ran;
 }
+#endif
 
 Ran run_second(const std::string& job, std::size_t room, const Bytes& pattern) {
   Ran ran{0, 0, 0, Bytes(pattern.begin(), pattern.begin() + static_cast<std::ptrdiff_t>(room + kGuard))};
@@ -172,7 +180,7 @@ int report(const Counts& c) {
 }
 
 // The lengths of output that a job is run with, beside one that is always enough.
-std::vector<std::size_t> rooms(jobs::Random& r, const Ran& full) {
+[[maybe_unused]] std::vector<std::size_t> rooms(jobs::Random& r, const Ran& full) {
   std::vector<std::size_t> list{0, full.bytes};
   if (full.bytes > 0) list.push_back(full.bytes - 1);
   list.push_back(r.below(full.bytes + 1));
@@ -190,11 +198,21 @@ std::vector<std::size_t> rooms(jobs::Random& r, const Ran& full) {
   return list;
 }
 
-}  // namespace
+// Reports what was seen, and answers the status.
+int finish(const Counts& counts, std::uint64_t n, std::uint64_t first_seed) {
+  const int wrong = report(counts);
+  std::printf("same: %" PRIu64 " jobs from seed %" PRIu64 ", %" PRIu64 " runs (%" PRIu64 " of them stopped), %" PRIu64 " lines, %" PRIu64 " accepted, %" PRIu64
+              " refused\n",
+              counts.jobs, first_seed, counts.runs, counts.stopped, counts.lines, counts.accepted, counts.lines - counts.accepted);
+  if (n >= kJobs && wrong != 0) {
+    std::printf("FAILED: %d refusals or letters never seen, or seen where they are not documented\n", wrong);
+    return 1;
+  }
+  return 0;
+}
 
-int main(int argc, char** argv) {
-  const std::uint64_t n = argc > 1 ? std::strtoull(argv[1], nullptr, 10) : kJobs;
-  const std::uint64_t first_seed = argc > 2 ? std::strtoull(argv[2], nullptr, 10) : 1;
+#ifndef PROGRAM_ONLY
+int by_call(std::uint64_t n, std::uint64_t first_seed) {
   Counts counts;
   for (std::uint64_t seed = first_seed; seed - first_seed < n; ++seed) {
     const std::string job = jobs::make(seed);
@@ -239,13 +257,82 @@ int main(int argc, char** argv) {
       if (room < enough && !same(room)) return 1;
   }
 
-  const int wrong = report(counts);
-  std::printf("same: %" PRIu64 " jobs from seed %" PRIu64 ", %" PRIu64 " runs (%" PRIu64 " of them stopped), %" PRIu64 " lines, %" PRIu64 " accepted, %" PRIu64
-              " refused\n",
-              counts.jobs, first_seed, counts.runs, counts.stopped, counts.lines, counts.accepted, counts.lines - counts.accepted);
-  if (n >= kJobs && wrong != 0) {
-    std::printf("FAILED: %d refusals or letters never seen, or seen where they are not documented\n", wrong);
-    return 1;
+  return finish(counts, n, first_seed);
+}
+#endif
+
+// ---- by the program
+
+constexpr std::size_t kMost = 65536;  // what saltjob reads and writes
+
+// What the program at `path` prints for the job.
+std::string printed(const std::string& path, const std::string& job) {
+  char name[] = "/tmp/compare-XXXXXX";
+  const int file = mkstemp(name);
+  if (file < 0 || write(file, job.data(), job.size()) != static_cast<ssize_t>(job.size())) std::abort();
+  close(file);
+  std::string out;
+  if (FILE* from = popen(("'" + path + "' < " + name).c_str(), "r")) {
+    char bytes[4096];
+    for (std::size_t got; (got = fread(bytes, 1, sizeof bytes, from)) > 0;) out.append(bytes, got);
+    if (pclose(from) != 0) out += "(the program failed)";
+  }
+  unlink(name);
+  return out;
+}
+
+int by_program(const std::string& path, std::uint64_t n, std::uint64_t first_seed) {
+  Counts counts;
+  const Bytes pattern(kMost + kGuard);
+  for (std::uint64_t seed = first_seed; seed - first_seed < n; ++seed) {
+    const std::string job = jobs::make(seed).substr(0, kMost);
+    const Ran two = run_second(job, kMost, pattern);
+    Ran one = two;
+    const std::string out = printed(path, job);
+    one.bytes = out.size();
+    std::copy(out.begin(), out.begin() + static_cast<std::ptrdiff_t>(std::min(out.size(), kMost)), one.out.begin());
+    ++counts.runs;
+    counts.stopped += two.stop == DAGRELK_NO_ROOM;
+    if (one.bytes != two.bytes || one.out != two.out) {
+      tell(seed, job, kMost, one, two);
+      return 1;
+    }
+    ++counts.jobs;
+    if (two.stop == DAGRELK_ANSWERED) count(counts, job, two);
+  }
+  return finish(counts, n, first_seed);
+}
+
+int write_cases(const std::string& folder, std::uint64_t n, std::uint64_t first_seed) {
+  const Bytes pattern(kMost + kGuard);
+  for (std::uint64_t seed = first_seed; seed - first_seed < n; ++seed) {
+    const std::string job = jobs::make(seed).substr(0, kMost), name = folder + "/" + std::to_string(seed);
+    const Ran ran = run_second(job, kMost, pattern);
+    FILE* in = fopen(name.c_str(), "wb");
+    FILE* out = fopen((name + ".stdout").c_str(), "wb");
+    if (!in || !out) return 1;
+    fwrite(job.data(), 1, job.size(), in);
+    fwrite(ran.out.data(), 1, ran.bytes, out);
+    fclose(in);
+    fclose(out);
   }
   return 0;
+}
+
+}  // namespace
+
+int main(int argc, char** argv) {
+  const std::string mode = argc > 2 ? argv[1] : "";
+  const bool by_name = mode == "--program" || mode == "--write";
+  const int at = by_name ? 3 : 1;
+  const std::uint64_t n = argc > at ? std::strtoull(argv[at], nullptr, 10) : kJobs;
+  const std::uint64_t first_seed = argc > at + 1 ? std::strtoull(argv[at + 1], nullptr, 10) : 1;
+  if (mode == "--program") return by_program(argv[2], n, first_seed);
+  if (mode == "--write") return write_cases(argv[2], n, first_seed);
+#ifndef PROGRAM_ONLY
+  return by_call(n, first_seed);
+#else
+  std::puts("this build compares by the program alone: compare --program PATH [N [S]]");
+  return 2;
+#endif
 }
