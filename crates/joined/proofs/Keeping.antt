@@ -1,6 +1,6 @@
 -- Members of a list that grows or shrinks. Assumes nothing.
-use Rattle.std.proofs.Common.{◌≡◌, ℕ, suc, ◌+◌, ◌<◌, ◌≤◌, Bool, Decides, MatchBool, true, false, ◌⊎◌, List, [], ◌∷◌, length, get_or, take, filter, sym, refl, ap, subst, inl, inr, ⊎_elim, arith}
-use Rattle.std.proofs.lemmas.List.{get_or_default, take_more}
+use Rattle.std.proofs.Common.{◌≡◌, ℕ, suc, ◌+◌, ◌<◌, ◌≤◌, Bool, Decides, MatchBool, true, false, ◌⊎◌, List, [], ◌∷◌, length, get_or, drop, take, filter, sym, refl, ap, ◌∙◌, subst, inl, inr, ⊎_elim, arith}
+use Rattle.std.proofs.lemmas.List.{drop_more, get_or_default, take_more}
 use Rattle.std.proofs.lemmas.Bool.{both_ways, cases_Bool, cond-false, cond-true}
 use Rattle.std.specs.List.{AllWithin, HoldsAt}
 use Rattle.order.specs.Firsts.{Among}
@@ -15,6 +15,10 @@ among_next {X} xs i y h x m =
     (λ (k : Among x (take i xs)). inl k)
     (λ (k : Among x (get_or xs i y ∷ [])). inr (among_one k))
     (among_either (take i xs) (get_or xs i y ∷ []) (subst P (take_more xs i y h) m))
+
+-- what is read behind the front of a list that was changed at its front alone
+pub read_behind : {X : Type 0} (xs ys : List X) (i : ℕ) (x : X) → drop i ys ≡ drop i xs → i < length ys → length ys ≡ length xs → x ≡ get_or ys i x → x ≡ get_or xs i x
+read_behind xs ys i x h lt long is = is ∙ ap (λ l. get_or l 0 x) (sym (drop_more ys i x lt) ∙ h ∙ drop_more xs i x (omega (arith, lt, long)))
 
 pub among_here : {X : Type 0} (xs : List X) (i : ℕ) (y : X) → i < length xs → Among (get_or xs i y) xs
 among_here xs i y h = among_at xs i (get_or xs i y) h (get_or_default xs i y (get_or xs i y) h)

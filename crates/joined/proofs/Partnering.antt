@@ -1,24 +1,23 @@
 -- The first of the pairs of one member, and the firsts of all members. Assumes nothing.
-use Rattle.std.proofs.Common.{◌≡◌, ℕ, ◌<◌, ◌≤◌, Bool, true, false, cond, ltb, ◌⊎◌, List, [], ◌∷◌, ◌++◌, length, Some, None, Option, IsSomeAnd, sym, refl, ap, ◌∙◌, subst, inl, inr, ⊎_elim, arith}
+use Rattle.std.proofs.Common.{◌≡◌, ℕ, suc, ◌+◌, ◌<◌, ◌≤◌, Bool, true, false, cond, ltb, ◌⊎◌, List, [], ◌∷◌, ◌++◌, length, get_or, take, Some, None, Option, sym, refl, ap, ◌∙◌, subst, inl, inr, ⊎_elim, arith}
 use Rattle.std.proofs.lemmas.Bool.{both_ways, cases_Bool, cases_lt, cond-true, le-ltb, ltb-false}
 use Rattle.order.specs.Orders.{then_by}
 use Rattle.order.specs.Firsts.{Among, FirstOf}
-use Rattle.order.specs.Firsts.Among.{here, there}
-use Rattle.std.specs.List.Retain.{RetainsInTurn}
-use Rattle.order.proofs.Finding.{among_either, among_left, among_none, among_one, among_right}
+use Rattle.order.specs.Firsts.Among.{here}
+use Rattle.order.proofs.Finding.{among_either, among_left, among_none, among_one, among_right, never_itself}
 use Rattle.space.specs.declared.Space.{Ghosts}
 use Rattle.space.specs.declared.spot.Spot.{Spot}
 use Rattle.tree_laws.specs.declared.Row.{Row}
 use Rattle.space.specs.Totals.{capped_distance}
 use Rattle.order.specs.Bests.{BestOf, Decides}
 use Rattle.order.specs.Lexical.{then_above, then_level}
-use Rattle.order.proofs.Deciding.{Below, decides_first}
+use Rattle.order.proofs.Deciding.{Below, below_at, below_last, below_more, decides_first, decides_push}
 use Rattle.build_laws.specs.Joining.{Farthest, PairOf, far_of}
 use Rattle.build_laws.specs.declared.pair.Pair.{Pair}
-use Rattle.joined.specs.Pairs.{PairRenewed, FirstPairs, FirstsOf, Held, Lasting, NoFarther, PairIn, Partner, PartnerAt, PairsReady, Stale, pair_of}
+use Rattle.joined.specs.Pairs.{PairRenewed, FirstPairs, FirstsOf, Held, Lasting, NoFarther, PairIn, Partner, PartnerAt, PairsReady, pair_of}
 use Rattle.build_laws.specs.Pairs.{pair_before, pair_order, same_pair}
 use Rattle.joined.specs.Joinings.{Rising}
-use Rattle.joined.proofs.Keeping.{among_here, among_place}
+use Rattle.joined.proofs.Keeping.{among_here, among_next, among_place}
 use Rattle.joined.proofs.Rising.{rising_later}
 
 -- what does not come first is not less
@@ -40,6 +39,14 @@ then_not a b r h e =
 -- a pair that is no farther and whose numbers are no lower does not come before
 pair_not : (x y : Pair) → x.far ≤ y.far → y.a ≤ x.a → y.b ≤ x.b → pair_before x y ≡ false
 pair_not x y f h k = then_not y.far x.far _ f (then_not x.a y.a _ h (le-ltb x.b y.b k))
+
+-- A pair that is 1 farther than those listed is `least` far, or no pair is listed.
+abbrev pub Least : List Pair → ℕ → Type 0
+Least F least = (least ≡ 0) ⊎ ((w : Pair) × Among w F × (w.far + 1 ≡ least))
+
+farthest : (F : List Pair) (least : ℕ) → Least F least → 0 < least → (w : Pair) × Among w F × (w.far + 1 ≡ least)
+farthest F least (inl e) h = absurd (omega (arith, e, h))
+farthest F least (inr w) h = w
 
 module _ (d : Spot → Spot → ℕ) (j : Spot → Spot → Spot → Spot) (rows : List Row) where
   -- ---- the pairs of one member
@@ -69,31 +76,60 @@ module _ (d : Spot → Spot → ℕ) (j : Spot → Spot → Spot → Spot) (rows
         },
       )
 
-  -- ---- the search for the first pair of one member
+  -- the pair with the member at a place is the only one there
+  partner_only : (group : List ℕ) (b i : ℕ) (p m : Pair) → PartnerAt d j rows group b i p → PartnerAt d j rows group b i m → m ≡ p
+  partner_only group b i p m q r = r.is ∙ ap (λ n. pair_of d j rows n b) (r.member ∙ sym q.member) ∙ sym q.is
 
-  -- A search over the places from 0 up that ended at n: what is first of the pairs found there is the first of all, where all places were passed or it
-  -- is as far as a pair can be.
-  module _ (group : List ℕ) (b f : ℕ) (rising : Rising group) (most : NoFarther d j rows group b f) (Enough : Pair → Type 0) (far : (p : Pair) → Enough p → p.far ≡ f) where
-    pub until_best : (n : ℕ) (r : Option Pair) → BestOf pair_before (Below (PartnerAt d j rows group b) n) r → (n ≡ length group) ⊎ IsSomeAnd r Enough → BestOf pair_before (Partner d j rows group b) r
-    until_best n None q (inl e) = λ m h. let k = partner_number group b m h in q m (k.0, omega (arith, k.1, e), k.2)
-    until_best n None q (inr z) = absurd z
-    until_best n (Some p) q ends = (partner_every group b q.0.0 p q.0.2, least)
-      where
-        least : (m : Pair) → Partner d j rows group b m → pair_before m p ≡ false
-        least m h =
-            let k = partner_number group b m h in
-            ⊎_elim
-            (λ (l : k.0 < n). q.1 m (k.0, l, k.2))
-            (λ (l : n ≤ k.0).
-            ⊎_elim
-            (λ (e : n ≡ length group). absurd (omega (arith, k.1, l, e)))
-            (λ (z : Enough p).
-            pair_not m p
-            (omega (arith, most m h, far p z))
-            (omega (arith, rising_later group rising q.0.0 k.0 (omega (arith, q.0.1, l)) k.1, k.2.member, q.0.2.member))
-            (omega (arith, h.second, ap (λ (z : Pair). z.b) q.0.2.is)))
-            ends)
-            (cases_lt k.0 n)
+  -- ---- the pairs of one member that may be its first
+
+  module _ (group : List ℕ) (b : ℕ) (rising : Rising group) where
+    abbrev At : ℕ → Pair → Type 0
+    At = PartnerAt d j rows group b
+
+    -- a pair that is no farther than one before it is not the first
+    not_farther : (n k : ℕ) (w m : Pair) → Below At n w → At k m → n ≤ k → m.far ≤ w.far → pair_before m w ≡ false
+    not_farther n k w m q r h f =
+        pair_not m w f
+        (omega (arith, rising_later group rising q.0 k (omega (arith, q.1, h)) r.place, r.member, q.2.member))
+        (omega (arith, ap (λ (z : Pair). z.b) r.is, ap (λ (z : Pair). z.b) q.2.is))
+
+    pub list_more : (n : ℕ) (F : List Pair) (p : Pair) → Decides pair_before (Below At n) F → At n p → Decides pair_before (Below At (suc n)) (F ++ p ∷ [])
+    list_more n F p l q =
+        let P : Pair → Type 0 = λ z. pair_before z p ≡ false in
+        decides_push pair_before (Below At n) (At n) (Below At (suc n)) (below_more At n) (below_at At n) (below_last At n) F l p
+        (q, λ m r. subst P (sym (partner_only group b n p m q r)) (never_itself pair_order p))
+
+    pub list_same : (n : ℕ) (F : List Pair) (p : Pair) (least : ℕ) → Decides pair_before (Below At n) F → Least F least → At n p → p.far < least → Decides pair_before (Below At (suc n)) F
+    list_same n F p least l e q h =
+        record {
+          within = λ m i. below_more At n m (l.within m i);
+          beaten = λ m r.
+              ⊎_elim
+              (λ (z : Below At n m). l.beaten m z)
+              (λ (z : At n m).
+              let k = farthest F least e (omega arith) in
+              (k.0, k.1, not_farther n n k.0 m (l.within k.0 k.1) z (omega arith) (omega (arith, h, k.2, ap (λ (z : Pair). z.far) (partner_only group b n p m q z)))))
+              (below_last At n m r);
+        }
+
+    -- what is listed decides, where no member is left that is lower, or a pair is as far as a pair can be
+    pub list_ends : (n : ℕ) (F : List Pair) (least most : ℕ) → Decides pair_before (Below At n) F → Least F least → NoFarther d j rows group b most → (n < length group → b ≤ get_or group n 0 ⊎ most < least) → Decides pair_before (Partner d j rows group b) F
+    list_ends n F least most l e near ends =
+        record {
+          within = λ m i. let q = l.within m i in partner_every group b q.0 m q.2;
+          beaten = λ m h.
+              let k = partner_number group b m h in
+              ⊎_elim
+              (λ (z : k.0 < n). l.beaten m (k.0, z, k.2))
+              (λ (z : n ≤ k.0).
+              ⊎_elim
+              (λ (y : b ≤ get_or group n 0). absurd (omega (arith, rising_later group rising n k.0 z k.1, k.2.member, h.lower, y)))
+              (λ (y : most < least).
+              let w = farthest F least e (omega arith) in
+              (w.0, w.1, not_farther n k.0 w.0 m (l.within w.0 w.1) k.2 z (omega (arith, near m h, y, w.2))))
+              (ends (omega (arith, z, k.1))))
+              (cases_lt k.0 n);
+        }
 
   -- ---- the firsts of several members
 
@@ -136,46 +172,28 @@ module _ (d : Spot → Spot → ℕ) (j : Spot → Spot → Spot → Spot) (rows
 
   -- ---- the firsts once a and b have gone
 
-  -- each old pair was kept as `PairRenewed` says, or left out
-  module _ {S : Type 0} (group : List ℕ) (a b : ℕ) (R : S → Pair → Bool → S → Pair → Type 0) (f : S) (each : (x : Pair) (k : Bool) (t : S) (y : Pair) → R f x k t y → (t ≡ f) × (Stale d j rows group a b x → PairRenewed d j rows group a b x (cond k (Some y) None))) where
-    pub renewed : (olds F : List Pair) → RetainsInTurn R f olds F → ((x : Pair) → Among x olds → Stale d j rows group a b x) → FirstsOf d j rows group (Lasting d j a b olds) F
-    renewed [] F e stale =
-        let P : List Pair → Type 0 = λ xs. FirstsOf d j rows group (Lasting d j a b []) xs in
-        subst P (sym e) (firsts_none group (Lasting d j a b []) (λ x i. among_none i.1))
-    renewed (x ∷ xs) F (k, t, y, q, zs, rest, e) stale =
-        let s = each x k t y q in
-        let Q : S → Type 0 = λ u. RetainsInTurn R u xs zs in
-        let P : List Pair → Type 0 = λ ys. FirstsOf d j rows group (Lasting d j a b (x ∷ xs)) ys in
-        let more = renewed xs zs (subst Q s.0 rest) (λ z i. stale z (there i)) in
-        subst P (sym e) (next k (s.1 (stale x here)) more)
-      where
-        last : (z : ℕ) → Lasting d j a b (x ∷ xs) z → Lasting d j a b xs z ⊎ (z ≡ x.b)
-        last z (old, here, u, v, w) = inr (sym u)
-        last z (old, there i, u, v, w) = inl (old, i, u, v, w)
+  -- x is the next of the old pairs, and F holds the firsts of those before it
+  module _ (group : List ℕ) (a b : ℕ) (olds : List Pair) (i : ℕ) (x : Pair) (h : i < length olds) (is : x ≡ get_or olds i x) (F : List Pair) (f : FirstsOf d j rows group (Lasting d j a b (take i olds)) F) where
+    next : (y : ℕ) → Lasting d j a b (take (i + 1) olds) y → Lasting d j a b (take i olds) y ⊎ ((y ≡ x.b) × (y ≡ a → ⊥) × (y ≡ b → ⊥))
+    next y (old, m, e, na, nb) =
+        ⊎_elim
+        (λ (k : Among old (take i olds)). inl (old, k, e, na, nb))
+        (λ (k : old ≡ get_or olds i x). inr (sym e ∙ ap (λ (z : Pair). z.b) (k ∙ sym is), na, nb))
+        (among_next olds i x h old m)
 
-        next : (k : Bool) → PairRenewed d j rows group a b x (cond k (Some y) None) → FirstsOf d j rows group (Lasting d j a b xs) zs → FirstsOf d j rows group (Lasting d j a b (x ∷ xs)) (cond k (y ∷ zs) zs)
-        next true g f =
-            record {
-              each = λ p i.
-                  ⊎_elim
-                  (λ (o : Among p (y ∷ [])). subst (Held d j rows group) (sym (among_one o)) g.0)
-                  (λ (o : Among p zs). f.each p o)
-                  (among_either (y ∷ []) zs i);
-              all = λ n l p q.
-                  ⊎_elim
-                  (λ (o : Lasting d j a b xs n). let r = f.all n o p q in (r.0, there r.1, r.2))
-                  (λ (o : n ≡ x.b). (y, here, g.1 ∙ sym o))
-                  (last n l);
-            }
-        next false g f =
-            record {
-              each = f.each;
-              all = λ n l p q.
-                  ⊎_elim
-                  (λ (o : Lasting d j a b xs n). f.all n o p q)
-                  (λ (o : n ≡ x.b). let P : ℕ → Type 0 = λ m. Partner d j rows group m p in absurd (g (λ h. l.3 (o ∙ h)) (λ h. l.4 (o ∙ h)) p (subst P o q)))
-                  (last n l);
-            }
+    pub renewed_kept : (w : Pair) → PairRenewed d j rows group a b x (Some w) → FirstsOf d j rows group (Lasting d j a b (take (i + 1) olds)) (F ++ w ∷ [])
+    renewed_kept w r =
+        firsts_push group (Lasting d j a b (take i olds)) (Lasting d j a b (take (i + 1) olds)) x.b
+        (λ y l p q. ⊎_elim (λ z. inl z) (λ z. inr z.0) (next y l))
+        F f w r.0 r.1
+
+    pub renewed_left : PairRenewed d j rows group a b x None → FirstsOf d j rows group (Lasting d j a b (take (i + 1) olds)) F
+    renewed_left r =
+        firsts_same group (Lasting d j a b (take i olds)) (Lasting d j a b (take (i + 1) olds)) 0
+        (λ y l p q.
+        let P : ℕ → Type 0 = λ n. Partner d j rows group n p in
+        ⊎_elim (λ z. inl z) (λ z. absurd (r (λ e. z.1 (z.0 ∙ e)) (λ e. z.2 (z.0 ∙ e)) p (subst P z.0 q))) (next y l))
+        F f (λ p q. omega (arith, q.lower))
 
   module _ (group : List ℕ) (a b new : ℕ) (olds : List Pair) (r : PairsReady d j rows group a b new olds) (F : List Pair) (f : FirstsOf d j rows group (Lasting d j a b olds) F) where
     turned : (x : ℕ) → Among x group → (p : Pair) → Partner d j rows group x p → Lasting d j a b olds x ⊎ (x ≡ new)

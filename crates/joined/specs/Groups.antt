@@ -2,23 +2,20 @@
 use Rattle.std.specs.Prelude.{ℕ, List, Option}
 use Rattle.space.specs.declared.Space.{Ghosts}
 use Rattle.space.specs.declared.Joining.{Ghosts as JoinGhosts}
+use Rattle.space.specs.declared.spot.Spot.{Spot}
 use Rattle.space.specs.Totals.{meet_or_start, capped_distance}
 use Rattle.build_laws.specs.declared.pair.Pair.{Pair}
 use Rattle.joined.specs.declared.partners.Change.{Change}
 use Rattle.joined.specs.declared.partners.Group.{Group}
-use Rattle.joined.specs.Pairs.{FirstPairs, NoFarther, Partner, PartnerAt, PairsReady, PairRenewed, Stale, pair_of}
+use Rattle.joined.specs.Pairs.{FirstPairs, FirstsOf, Lasting, NoFarther, Partner, PairsReady, PairRenewed, Stale}
 
--- The pair of two rows.
-abbrev pub pair_in : {X : Type 0} → (G : Ghosts X) → (J : JoinGhosts X) → Group X J G → (a b : ℕ) → Pair
-pair_in G J g a b = pair_of (capped_distance G g.space.now) (meet_or_start G J g.space.now) g.table.now.rows a b
+-- How far the meet of two spots is from the driver's.
+abbrev pub far_in : {X : Type 0} → (G : Ghosts X) → (J : JoinGhosts X) → Group X J G → (o a b : Spot) → ℕ
+far_in G J g o a b = capped_distance G g.space.now o (meet_or_start G J g.space.now o a b)
 
 -- p is a pair of b with a lower member.
 abbrev pub PartnerIn : {X : Type 0} → (G : Ghosts X) → (J : JoinGhosts X) → Group X J G → (b : ℕ) → Pair → Type 0
 PartnerIn G J g b p = Partner (capped_distance G g.space.now) (meet_or_start G J g.space.now) g.table.now.rows g.members.now b p
-
--- p is the pair of b with the member at the place i, where that is lower.
-abbrev pub PartnerAtIn : {X : Type 0} → (G : Ghosts X) → (J : JoinGhosts X) → Group X J G → (b i : ℕ) → Pair → Type 0
-PartnerAtIn G J g b i p = PartnerAt (capped_distance G g.space.now) (meet_or_start G J g.space.now) g.table.now.rows g.members.now b i p
 
 -- No pair of b with a lower member is farther than f.
 abbrev pub NoneFarther : {X : Type 0} → (G : Ghosts X) → (J : JoinGhosts X) → Group X J G → (b f : ℕ) → Type 0
@@ -39,3 +36,8 @@ RenewedIn G J g c old new = PairRenewed (capped_distance G g.space.now) (meet_or
 -- The old pairs serve the group after a step.
 abbrev pub ReadyIn : {X : Type 0} → (G : Ghosts X) → (J : JoinGhosts X) → Group X J G → Change → List Pair → Type 0
 ReadyIn G J g c F = PairsReady (capped_distance G g.space.now) (meet_or_start G J g.space.now) g.table.now.rows g.members.now c.a c.b c.new F
+
+-- F holds firsts after a step, those of the members of the old pairs that have not gone.
+abbrev pub LastingIn : {X : Type 0} → (G : Ghosts X) → (J : JoinGhosts X) → Group X J G → Change → (olds F : List Pair) → Type 0
+LastingIn G J g c olds F =
+    FirstsOf (capped_distance G g.space.now) (meet_or_start G J g.space.now) g.table.now.rows g.members.now (Lasting (capped_distance G g.space.now) (meet_or_start G J g.space.now) c.a c.b olds) F

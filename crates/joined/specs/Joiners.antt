@@ -13,8 +13,8 @@ members_of w = vec_items w.group
 
 -- The group can be joined, and its first pairs are known.
 abbrev pub JoiningStands : {X : Type 0} → Ghosts X → JoinGhosts X → X → List Row → Joiner → Type 0
-JoiningStands G J s rows w = JoiningState (capped_distance G s) (meet_or_start G J s) rows (vec_items w.group) (vec_items w.partners)
+JoiningStands G J s rows w = JoiningState (capped_distance G s) (meet_or_start G J s) rows (vec_items w.group) (vec_items w.partners.firsts)
 
 -- Asked for one step, the answer is r, and the memory w₀ is w then.
 abbrev pub JoiningSteps : {X : Type 0} → Ghosts X → JoinGhosts X → X → List Row → (w₀ : Joiner) → Bool → List Row → (w : Joiner) → Type 0
-JoiningSteps G J s rows w₀ r after w = Stepped (capped_distance G s) (meet_or_start G J s) rows (vec_items w₀.group) r after (vec_items w.group) (vec_items w.partners)
+JoiningSteps G J s rows w₀ r after w = Stepped (capped_distance G s) (meet_or_start G J s) rows (vec_items w₀.group) r after (vec_items w.group) (vec_items w.partners.firsts)

@@ -3,7 +3,7 @@ ghost use Rattle.tree.specs.declared.table.TheConstants.{ROWS};
 ghost use Rattle.build_laws.specs.Joining.{others};
 ghost use Rattle.joined.specs.Joinings.{AllHang, Joinable, Rising};
 
-use crate::partners::{Change, Group};
+use crate::partners::{Change, Group, Partners};
 use build_laws::Pair;
 use search::first;
 use share::{hangs, insert_meet};
@@ -11,13 +11,12 @@ use space::Joining;
 use std::alloc::{AllocError, Global};
 use tree::{ROWS, Tree};
 
-/// The memory for joining, reserved once: the group, and the first pair of each member.
+/// The memory for joining, reserved once: the group, the first pair of each member, and the pairs of one member.
 #[derive(Drop)]
 pub struct Joiner {
     group: Vec<usize>,
-    partners: Vec<Pair>,
+    partners: Partners,
     ghost members: { ROWS ≤ vec_capacity group },
-    ghost kept: { ROWS ≤ vec_capacity partners },
 }
 
 /// Whether the members rise.
@@ -73,7 +72,7 @@ impl Joiner {
         ensures { IfOk result (λ joiner. members_of joiner ≡ []) }
     {
         let group = Vec::with_capacity(heap, ROWS)?;
-        let partners = Vec::with_capacity(heap, ROWS)?;
+        let partners = Partners::new(heap)?;
         Ok(Joiner { group, partners })
     }
 
@@ -98,7 +97,7 @@ impl Joiner {
         ensures { JoiningSteps S.Space S.Joining.own space.now table.old.rows self.old result
             table.new.rows self.new }
     {
-        let Some(pair) = first(self.partners.as_slice()) else {
+        let Some(pair) = first(self.partners.firsts.as_slice()) else {
             return false;
         };
         if pair.far == 0 {

@@ -1,13 +1,35 @@
-ghost use Rattle.std.specs.Prelude.{◌≡◌, ◌+◌, ◌<◌, ◌≤◌, Some, None, if◌then◌else◌, length, vec_capacity};
-ghost use Rattle.order.specs.Bests.{BestOf};
+ghost use Rattle.std.specs.Prelude.{◌≡◌, ◌+◌, ◌≤◌, length, vec_capacity};
+ghost use Rattle.order.specs.Bests.{BestOf, Decides};
+ghost use Rattle.space.specs.declared.TheConstants.{LONGEST};
 ghost use Rattle.tree.specs.declared.table.TheConstants.{ROWS};
 ghost use Rattle.build_laws.specs.Pairs.{pair_before};
 ghost use Rattle.joined.specs.Joinings.{Rising};
 
 use build_laws::Pair;
-use search::first_until;
-use space::{Joining, LONGEST, capped_distance, meet_or_start};
-use tree::Tree;
+use search::first;
+use space::{Joining, LONGEST, Spot, capped_distance};
+use std::alloc::{AllocError, Global};
+use tree::{ROWS, Tree};
+
+/// The memory for pairs, reserved once: the first pair of each member, and the pairs of one member.
+#[derive(Drop)]
+pub(crate) struct Partners {
+    /// The first pair of each member that has a lower one.
+    pub firsts: Vec<Pair>,
+    /// The pairs of the member that is searched.
+    pairs: Vec<Pair>,
+    ghost firsts_room: { ROWS ≤ vec_capacity firsts },
+    ghost pairs_room: { ROWS ≤ vec_capacity pairs },
+}
+
+impl Partners {
+    /// Room for the pairs of as many members as a tree can have rows.
+    pub fn new(heap: Global) -> Result<Partners, AllocError> {
+        let firsts = Vec::with_capacity(heap, ROWS)?;
+        let pairs = Vec::with_capacity(heap, ROWS)?;
+        Ok(Partners { firsts, pairs })
+    }
+}
 
 /// The members of a group, the tree of their rows, and the space that measures it.
 #[derive(Drop)]
@@ -34,92 +56,113 @@ pub(crate) struct Change {
 }
 
 impl<'a, S: Joining> Group<'a, S> {
-    ghost use Rattle.joined.specs.Groups.{FirstsIn, NoneFarther, PartnerAtIn, PartnerIn, ReadyIn, RenewedIn, StaleIn, pair_in};
+    ghost use Rattle.joined.specs.Groups.{far_in, FirstsIn, LastingIn, NoneFarther, PartnerIn, ReadyIn, RenewedIn, StaleIn};
 
-    /// The pair of two rows.
-    fn pair(&self, a: usize, b: usize) -> Pair
-        ensures { result ≡ pair_in S.Space S.Joining.own self.now a b }
+    /// How far the meet of two spots is from the driver's, seen from there. The two cases lie apart, so that what a meet rests on is not asked
+    /// again for its distance.
+    fn far(&self, driver: Spot, one: Spot, two: Spot) -> u64
+        ensures value { result ≡ far_in S.Space S.Joining.own self.now driver one two }
+        ensures bound { result ≤ LONGEST }
     {
-        let driver = self.table.at(0).spot;
-        let one = self.table.at(a).spot;
-        let two = self.table.at(b).spot;
-        let meet = meet_or_start(self.space, driver, one, two);
-        let far = capped_distance(self.space, driver, meet);
-        Pair { far, a, b }
-    }
-
-    /// The pair of `b` with the member at the place `i`, where that is lower.
-    fn partner(&self, i: usize, b: usize) -> Option<Pair>
-        requires { i < length self.now.members.now }
-        ensures { BestOf pair_before (PartnerAtIn S.Space S.Joining.own self.now b i) result }
-    {
-        let a = self.members[i];
-        if a >= b {
-            return None;
+        match self.space.meet(driver, one, two) {
+            Some(meet) => capped_distance(self.space, driver, meet),
+            None => capped_distance(self.space, driver, driver),
         }
-        Some(self.pair(a, b))
     }
 
-    /// The first of the pairs of `b` with a lower member, none of which is farther than `most`. The members rise, so the search ends at a pair
-    /// that is as far as that.
-    fn first_of(&self, b: usize, most: u64) -> Option<Pair>
-        ensures { NoneFarther S.Space S.Joining.own self.now b most
-            → BestOf pair_before (PartnerIn S.Space S.Joining.own self.now b) result }
+    /// Lists the pairs of `b` with lower members, none of which is farther than `most`, that are farther than all before them. No other can be
+    /// the first: the members rise. So the list ends at a pair that is as far as `most`.
+    fn list(&self, b: usize, most: u64, pairs: &mut Vec<Pair>)
+        requires most { NoneFarther S.Space S.Joining.own self.now b most }
+        requires room { ROWS ≤ vec_capacity pairs.old }
+        ensures decides { Decides pair_before (PartnerIn S.Space S.Joining.own self.now b) pairs.new.items }
+        ensures room { vec_capacity pairs.new ≡ vec_capacity pairs.old }
     {
-        first_until(
-            self.members.len(),
-            |i| self.partner(i, b),
-            |pair| pair.far == most,
-        )
-    }
-
-    /// The first pair of each member that has a lower one.
-    pub fn start(&self, partners: &mut Vec<Pair>)
-        requires { ROWS ≤ vec_capacity partners.old }
-        ensures firsts { FirstsIn S.Space S.Joining.own self.now partners.new.items }
-        ensures few { length partners.new.items ≤ length self.now.members.now }
-        ensures room { vec_capacity partners.new ≡ vec_capacity partners.old }
-    {
-        partners.clear();
-        for &member in self.members {
-            if let Some(found) = self.first_of(member, LONGEST) {
-                partners.push_reserved(found);
+        pairs.clear();
+        let driver = self.table.at(0).spot;
+        let spot = self.table.at(b).spot;
+        let mut least = 0;
+        for &a in self.members {
+            if a >= b || least > most {
+                break;
+            }
+            let far = self.far(driver, self.table.at(a).spot, spot);
+            if far >= least {
+                pairs.push_reserved(Pair { far, a, b });
+                least = far + 1;
             }
         }
     }
 
-    /// Makes the first pair of a member what it is after a step, and answers whether there is one: none where the member has gone, else the
-    /// pair as it was unless its partner has gone. Then it is searched anew, and is no farther than it was, since fewer lower members are left.
-    fn renewed(&self, pair: &mut Pair, change: Change) -> bool
-        ensures { StaleIn S.Space S.Joining.own self.now change pair.old
-            → RenewedIn S.Space S.Joining.own self.now change pair.old
-            (if result then Some pair.new else None) }
+    /// The first of the pairs of `b` with a lower member, none of which is farther than `most`.
+    fn first_of(&self, b: usize, most: u64, pairs: &mut Vec<Pair>) -> Option<Pair>
+        requires most { NoneFarther S.Space S.Joining.own self.now b most }
+        requires room { ROWS ≤ vec_capacity pairs.old }
+        ensures best { BestOf pair_before (PartnerIn S.Space S.Joining.own self.now b) result }
+        ensures room { vec_capacity pairs.new ≡ vec_capacity pairs.old }
+    {
+        self.list(b, most, pairs);
+        first(pairs.as_slice())
+    }
+
+    /// The first pair of each member that has a lower one.
+    pub fn start(&self, partners: &mut Partners)
+        ensures firsts { FirstsIn S.Space S.Joining.own self.now partners.new.firsts.items }
+        ensures few { length partners.new.firsts.items ≤ length self.now.members.now }
+    {
+        partners.firsts.clear();
+        for &member in self.members {
+            if let Some(found) = self.first_of(member, LONGEST, &mut partners.pairs) {
+                partners.firsts.push_reserved(found);
+            }
+        }
+    }
+
+    /// The first pair of a member after a step, where `pair` was that before it. There is none where the member has gone; else it is as it was
+    /// unless its partner has gone. Then it is searched anew, and is no farther than it was, since fewer lower members are left.
+    fn renewed(&self, pair: Pair, change: Change, pairs: &mut Vec<Pair>) -> Option<Pair>
+        requires stale { StaleIn S.Space S.Joining.own self.now change pair }
+        requires room { ROWS ≤ vec_capacity pairs.old }
+        ensures renewed { RenewedIn S.Space S.Joining.own self.now change pair result }
+        ensures room { vec_capacity pairs.new ≡ vec_capacity pairs.old }
     {
         let Change { a, b, .. } = change;
         if pair.b == a || pair.b == b {
-            return false;
+            return None;
         }
         if pair.a != a && pair.a != b {
-            return true;
+            return Some(pair);
         }
-        let Some(found) = self.first_of(pair.b, pair.far) else {
-            return false;
-        };
-        *pair = found;
-        true
+        self.first_of(pair.b, pair.far, pairs)
+    }
+
+    /// Makes the first pairs of the members before a step those that these have after it.
+    fn renew_old(&self, change: Change, partners: &mut Partners)
+        requires { ReadyIn S.Space S.Joining.own self.now change partners.old.firsts.items }
+        ensures firsts { LastingIn S.Space S.Joining.own self.now change
+            partners.old.firsts.items partners.new.firsts.items }
+        ensures few { length partners.new.firsts.items ≤ length partners.old.firsts.items }
+    {
+        let mut kept = 0;
+        for i in 0..partners.firsts.len() {
+            let old = partners.firsts[i];
+            if let Some(pair) = self.renewed(old, change, &mut partners.pairs) {
+                partners.firsts[kept] = pair;
+                kept += 1;
+            }
+        }
+        partners.firsts.truncate(kept);
     }
 
     /// Makes the first pairs of the members before a step those after it.
-    pub fn renew(&self, change: Change, partners: &mut Vec<Pair>)
-        requires room { ROWS ≤ vec_capacity partners.old }
-        requires ready { ReadyIn S.Space S.Joining.own self.now change partners.old.items }
-        ensures firsts { FirstsIn S.Space S.Joining.own self.now partners.new.items }
-        ensures few { length partners.new.items ≤ length partners.old.items + 1 }
-        ensures room { vec_capacity partners.new ≡ vec_capacity partners.old }
+    pub fn renew(&self, change: Change, partners: &mut Partners)
+        requires { ReadyIn S.Space S.Joining.own self.now change partners.old.firsts.items }
+        ensures firsts { FirstsIn S.Space S.Joining.own self.now partners.new.firsts.items }
+        ensures few { length partners.new.firsts.items ≤ length partners.old.firsts.items + 1 }
     {
-        partners.retain_mut(|pair| self.renewed(pair, change));
-        if let Some(found) = self.first_of(change.new, LONGEST) {
-            partners.push_reserved(found);
+        self.renew_old(change, partners);
+        if let Some(found) = self.first_of(change.new, LONGEST, &mut partners.pairs) {
+            partners.firsts.push_reserved(found);
         }
     }
 }

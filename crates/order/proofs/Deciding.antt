@@ -5,7 +5,7 @@ use Rattle.order.specs.Orders.{Order}
 use Rattle.order.specs.Firsts.{Among, FirstOf}
 use Rattle.order.specs.Firsts.Among.{here}
 use Rattle.order.proofs.Finding.{among_none, among_either, among_left, among_right, among_one, not_before}
-use Rattle.order.specs.Bests.{BestOf, Decides, FirstFound, Found}
+use Rattle.order.specs.Bests.{BestOf, Decides, Found}
 use Rattle.order.specs.Bests.Found.{start, skips, finds}
 
 module _ {X : Type 0} {lt : X → X → Bool} (o : Order lt) where
@@ -44,28 +44,22 @@ module _ {X : Type 0} (lt : X → X → Bool) (P Q R : X → Type 0) (left : (m 
 
 -- ---- a search over numbers
 
--- what is known of each answer of a search is known of what it found
-pub found_each : {X : Type 0} {A B : ℕ → Option X → Type 0} {n : ℕ} {xs : List X} → ((i : ℕ) (r : Option X) → i < n → A i r → B i r) → Found A n xs → Found B n xs
-found_each f start = start
-found_each f (skips {n} h g) = skips (found_each (λ i r k. f i r (omega arith)) h) (f n None (omega arith) g)
-found_each f (finds {n} {x = x} h g) = finds (found_each (λ i r k. f i r (omega arith)) h) (f n (Some x) (omega arith) g)
-
 module _ {X : Type 0} (P : ℕ → X → Type 0) where
   -- x has P at a number below n.
   abbrev pub Below : ℕ → X → Type 0
   Below n x = (i : ℕ) × (i < n) × P i x
 
-  below_last : (n : ℕ) (x : X) → Below (suc n) x → Below n x ⊎ P n x
+  pub below_last : (n : ℕ) (x : X) → Below (suc n) x → Below n x ⊎ P n x
   below_last n x (i, h, p) =
       ⊎_elim
       (λ (k : i < n). inl (i, k, p))
       (λ (k : n ≤ i). let e : i ≡ n = omega arith in inr (let Q : ℕ → Type 0 = λ m. P m x in subst Q e p))
       (cases_lt i n)
 
-  below_more : (n : ℕ) (x : X) → Below n x → Below (suc n) x
+  pub below_more : (n : ℕ) (x : X) → Below n x → Below (suc n) x
   below_more n x (i, h, p) = (i, omega arith, p)
 
-  below_at : (n : ℕ) (x : X) → P n x → Below (suc n) x
+  pub below_at : (n : ℕ) (x : X) → P n x → Below (suc n) x
   below_at n x p = (n, omega arith, p)
 
   module _ {lt : X → X → Bool} {Gives : ℕ → Option X → Type 0} where
@@ -87,12 +81,3 @@ module _ {X : Type 0} (P : ℕ → X → Type 0) where
     found_best Q o {n} {xs} r f first every number best =
         best_same lt (Below n) Q (λ x b. every b.0 x b.1 b.2) number r
         (decides_first o (Below n) xs r (found_decides f best) first)
-
--- Where each answer of a search in two stages is the best of what has P at its two numbers, the first of the firsts is the best of what has Q, which
--- is what has P at a number below n and one below k.
-pub pairs_best : {X : Type 0} {lt : X → X → Bool} {Gives : ℕ → ℕ → Option X → Type 0} (P : ℕ → ℕ → X → Type 0) (Q : X → Type 0) → Order lt → {n k : ℕ} (r : Option X) → FirstFound lt (λ i. FirstFound lt (Gives i) k) n r → ((i j : ℕ) (x : X) → P i j x → Q x) → ((x : X) → Q x → (i j : ℕ) × (i < n) × (j < k) × P i j x) → ((i j : ℕ) (r : Option X) → i < n → j < k → Gives i j r → BestOf lt (P i j) r) → BestOf lt Q r
-pairs_best P Q o {n} {k} r (xs, found, first) every numbers best =
-    found_best (λ i. Below (P i) k) Q o r found first
-    (λ i x h b. every i b.0 x b.2)
-    (λ x q. let a = numbers x q in (a.0, a.2, (a.1, a.3, a.4)))
-    (λ i r h (ys, f, l). found_best (P i) (Below (P i) k) o r f l (λ j x l p. (j, l, p)) (λ x b. b) (λ j r l g. best i j r h l g))

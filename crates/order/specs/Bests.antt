@@ -1,5 +1,5 @@
 -- The best of the candidates that have a property, and which candidates decide it. `lt x y` says that x comes before y. Assumes nothing.
-use Rattle.std.specs.Prelude.{◌≡◌, ℕ, suc, ◌≤◌, Bool, false, ◌⊎◌, List, [], ◌∷◌, ◌++◌, Some, None, Option, IsSomeAnd}
+use Rattle.std.specs.Prelude.{◌≡◌, ℕ, suc, Bool, false, List, [], ◌∷◌, ◌++◌, Some, None, Option}
 use Rattle.order.specs.Firsts.{Among, FirstOf}
 
 -- The best of the candidates that have P: nothing where there is none, else one that no other comes before.
@@ -21,10 +21,3 @@ pub data Found {X : Type 0} (Gives : ℕ → Option X → Type 0) : (n : ℕ) �
 -- The first of what a search over the numbers below n found.
 abbrev pub FirstFound : {X : Type 0} → (X → X → Bool) → (ℕ → Option X → Type 0) → ℕ → Option X → Type 0
 FirstFound {X} lt Gives n r = (xs : List X) × Found Gives n xs × FirstOf lt xs r
-
--- The same of a search that may end early: of what it found below a number, which is n unless the first of that is enough.
-pub record FirstUntil {X : Type 0} (lt : X → X → Bool) (Gives : ℕ → Option X → Type 0) (Enough : X → Type 0) (n : ℕ) (r : Option X) : Type 0 where
-  pub passed : ℕ
-  pub within : passed ≤ n
-  pub first : FirstFound lt Gives passed r
-  pub ends : (passed ≡ n) ⊎ IsSomeAnd r Enough

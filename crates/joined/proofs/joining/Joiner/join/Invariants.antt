@@ -10,6 +10,6 @@ abbrev pub invariant-loop : goal.invariant-loop
 invariant-loop g l =
     let d = capped_distance g.S.Space l.space in
     let j = meet_or_start g.S.Space g.S.Joining l.space in
-    JoiningState d j l.table.rows (vec_items l.self.group) (vec_items l.self.partners)
+    JoiningState d j l.table.rows (vec_items l.self.group) (vec_items l.self.partners.firsts)
     × (length (vec_items l.self.group) + l.counter ≤ length l.members)
     × ((end : List Row) → Joins d j l.table.rows (vec_items l.self.group) end → Joins d j l.initial.table.rows l.members end)

@@ -16,7 +16,7 @@ returns-in_default g c =
     let d = capped_distance g.S.Space c.args.space.now in
     let j = meet_or_start g.S.Space g.S.Joining c.args.space.now in
     let group = vec_items c.args.self.now.group in
-    let F = vec_items c.args.self.now.partners in
+    let F = vec_items c.args.self.now.partners.firsts in
     let P : List Pair → Type 0 = λ xs. FirstOf pair_before xs None in
     (refl, best_none d j rows group (firsts_best d j rows group F None c.requires.firsts (subst P c.as_slice.ensures.value c.in_default.ensures.first)))
 
@@ -26,7 +26,7 @@ returns-then-pair-eq0 g c =
     let d = capped_distance g.S.Space c.args.space.now in
     let j = meet_or_start g.S.Space g.S.Joining c.args.space.now in
     let group = vec_items c.args.self.now.group in
-    let F = vec_items c.args.self.now.partners in
+    let F = vec_items c.args.self.now.partners.firsts in
     let p = c.in-Some.pair in
     let P : List Pair → Type 0 = λ xs. FirstOf pair_before xs (Some p) in
     (refl, best_near d j rows group p (firsts_best d j rows group F (Some p) c.requires.firsts (subst P c.as_slice.ensures.value c.in-Some.ensures.first)) c.if-pair-eq0.true)
@@ -38,7 +38,7 @@ returns-in_default-insert_meet g c =
     let d = capped_distance g.S.Space c.args.space.now in
     let j = meet_or_start g.S.Space g.S.Joining c.args.space.now in
     let group = vec_items c.args.self.now.group in
-    let F = vec_items c.args.self.now.partners in
+    let F = vec_items c.args.self.now.partners.firsts in
     let p = c.in-Some.pair in
     let P : List Pair → Type 0 = λ xs. FirstOf pair_before xs (Some p) in
     let best = firsts_best d j rows group F (Some p) c.requires.firsts (subst P c.as_slice.ensures.value c.in-Some.ensures.first) in
@@ -65,7 +65,7 @@ invariant_of-group-clause-few g c =
     let d = capped_distance g.S.Space c.args.space.now in
     let j = meet_or_start g.S.Space g.S.Joining c.args.space.now in
     let group = vec_items c.args.self.now.group in
-    let F = vec_items c.args.self.now.partners in
+    let F = vec_items c.args.self.now.partners.firsts in
     let p = c.in-Some.pair in
     let P : List Pair → Type 0 = λ xs. FirstOf pair_before xs (Some p) in
     let best = firsts_best d j rows group F (Some p) c.requires.firsts (subst P c.as_slice.ensures.value c.in-Some.ensures.first) in
@@ -82,7 +82,7 @@ invariant_of-group-clause-rising g c =
     let d = capped_distance g.S.Space c.args.space.now in
     let j = meet_or_start g.S.Space g.S.Joining c.args.space.now in
     let group = vec_items c.args.self.now.group in
-    let F = vec_items c.args.self.now.partners in
+    let F = vec_items c.args.self.now.partners.firsts in
     let p = c.in-Some.pair in
     let P : List Pair → Type 0 = λ xs. FirstOf pair_before xs (Some p) in
     let best = firsts_best d j rows group F (Some p) c.requires.firsts (subst P c.as_slice.ensures.value c.in-Some.ensures.first) in
@@ -92,14 +92,14 @@ invariant_of-group-clause-rising g c =
     c.as_slice-2.ensures.value ∙ c.push_reserved.ensures.items ∙ ap (λ xs. xs ++ c.in-Some-insert_meet.new ∷ []) c.leave.ensures.items in
     rising_at d j rows t.tree group F c.requires p.a p.b best.0.pair c.insert_meet.new.table.rows left c.in-Some-insert_meet.new parted.2 parted.1 e
 
-pub renew-requires-clause-ready : goal.renew-requires-clause-ready
-renew-requires-clause-ready g c =
+pub renew-requires : goal.renew-requires
+renew-requires g c =
     let t = c.args.table.now in
     let rows = t.rows in
     let d = capped_distance g.S.Space c.args.space.now in
     let j = meet_or_start g.S.Space g.S.Joining c.args.space.now in
     let group = vec_items c.args.self.now.group in
-    let F = vec_items c.args.self.now.partners in
+    let F = vec_items c.args.self.now.partners.firsts in
     let p = c.in-Some.pair in
     let P : List Pair → Type 0 = λ xs. FirstOf pair_before xs (Some p) in
     let best = firsts_best d j rows group F (Some p) c.requires.firsts (subst P c.as_slice.ensures.value c.in-Some.ensures.first) in
@@ -116,13 +116,13 @@ returns g c =
     let d = capped_distance g.S.Space c.args.space.now in
     let j = meet_or_start g.S.Space g.S.Joining c.args.space.now in
     let group = vec_items c.args.self.now.group in
-    let F = vec_items c.args.self.now.partners in
+    let F = vec_items c.args.self.now.partners.firsts in
     let p = c.in-Some.pair in
     let P : List Pair → Type 0 = λ xs. FirstOf pair_before xs (Some p) in
     let best = firsts_best d j rows group F (Some p) c.requires.firsts (subst P c.as_slice.ensures.value c.in-Some.ensures.first) in
     let parted = c.in-Some-insert_meet.ensures in
     let left = vec_items c.push_reserved.new.self in
-    let G = vec_items c.renew.new.partners in
+    let G = vec_items c.renew.new.partners.firsts in
     let e : left ≡ filter (others p.a p.b) group ++ c.in-Some-insert_meet.new ∷ [] =
     c.push_reserved.ensures.items ∙ ap (λ xs. xs ++ c.in-Some-insert_meet.new ∷ []) c.leave.ensures.items in
     let Q : List ℕ → Type 0 = λ xs. FirstPairs d j c.insert_meet.new.table.rows xs G in

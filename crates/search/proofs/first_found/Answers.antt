@@ -1,8 +1,8 @@
-use Rattle.std.proofs.Common.{[], ◌∷◌, ◌++◌, ◌+◌, refl, add-one, inr, arith, rules}
+use Rattle.std.proofs.Common.{[], ◌∷◌, ◌++◌, refl, add-one, rules}
 use Rattle.order.specs.Bests.Found.{start, skips, finds}
 use Rattle.order.proofs.Finding.{Leads, leads_keeps, leads_takes}
-use Rattle.search.proofs.first_until.Goals as goal
-use Rattle.search.proofs.first_until.Goals.{in-Some+then-is_none_or+else-enough, in-Some+else-is_none_or, in_default}
+use Rattle.search.proofs.first_found.Goals as goal
+use Rattle.search.proofs.first_found.Goals.{in-Some+then-is_none_or, in-Some+else-is_none_or, in_default}
 
 pub loop-i-init : goal.loop-i-init
 loop-i-init g c = ([], start, refl)
@@ -13,7 +13,7 @@ loop-i-preserved g c =
     let o = g.met.C.Rank.order in
     let lt = g.C.Rank.before in
     rw add-one (elim c.match-find.branch [
-      | in-Some+then-is_none_or+else-enough w ↦
+      | in-Some+then-is_none_or w ↦
           let x = w.in-Some.candidate in
           let l : Leads lt c.loop-i.first x w.is_none_or.result = search rules in
           (xs ++ x ∷ [], finds found w.in-Some.ensures, rw w.first-is (leads_takes o xs c.loop-i.first x first (rw w.if-is_none_or.true at l)))
@@ -23,15 +23,3 @@ loop-i-preserved g c =
           (xs ++ x ∷ [], finds found w.in-Some.ensures, rw w.first-is (leads_keeps o xs c.loop-i.first x first (rw w.if-is_none_or.false at l)))
       | in_default w ↦ (xs, skips found w.in_default.ensures, rw w.first-is first)
     ])
-
-pub returns-then-enough : goal.returns-then-enough
-returns-then-enough g c =
-    let (xs, found, first) = c.loop-i.invariant in
-    let x = c.in-Some.candidate in
-    let l : Leads g.C.Rank.before c.loop-i.first x c.is_none_or.result = search rules in
-    record {
-      passed = c.loop-i.i + 1;
-      within = omega (arith, c.loop-i-test.true);
-      first = rw add-one (xs ++ x ∷ [], finds found c.in-Some.ensures, leads_takes g.met.C.Rank.order xs c.loop-i.first x first (rw c.if-is_none_or.true at l));
-      ends = inr (c.if-enough.ensures);
-    }

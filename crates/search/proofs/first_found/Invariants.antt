@@ -1,7 +1,7 @@
 use Rattle.std.proofs.Common.{List}
 use Rattle.order.specs.Bests.{Found}
 use Rattle.order.specs.Firsts.{FirstOf}
-use Rattle.search.proofs.first_until.Given as goal
+use Rattle.search.proofs.first_found.Given as goal
 
 -- the first so far is that of the candidates found so far
 abbrev pub invariant-loop-i : goal.invariant-loop-i
