@@ -1,7 +1,9 @@
 // The benchmark: both engines on the same nets, side by side in one run, in turn. See README.md.
 //
-//   bench                 the table: nanoseconds, the ratio, peak stack of the calls, bytes of a net
-//   bench only ENGINE CASE   makes the calls of one case once by one engine (0: this one, 1: the second one): for callgrind
+//   bench time             nanoseconds of both engines and the ratio
+//   bench space            peak stack of the calls, and what a net takes from the heap
+//   bench cases            how many cases there are
+//   bench only ENGINE N    makes the calls of case N / 2 once, by this engine (0) or the second one (1); where N is odd, only those that are taken off
 #include "../compare/engine.cpp"
 
 #include <malloc.h>
@@ -99,6 +101,7 @@ std::uint64_t second_calls(const std::int32_t* calls, std::size_t count) {
 
 std::uint64_t run(int engine, const Calls& calls) {
   const auto& n = calls.numbers;
+  if (engine == 2) return 0;
   return engine == 0 ? bench_calls(0, 0, n.data(), n.size()) : second_calls(n.data(), n.size());
 }
 
@@ -263,6 +266,9 @@ std::pair<double, double> both(F&& f) {
   return {best[0], best[1]};
 }
 
+// What was asked of malloc and operator new (the linker puts these in their place: --wrap).
+std::size_t taken, pieces;
+
 // The bytes of stack below the call, by a thread whose stack was painted.
 struct Painted {
   int engine;
@@ -292,10 +298,7 @@ std::size_t stack_of(int engine, const Calls& calls) {
   return kSize - low;
 }
 
-// The bytes that a net takes from the heap.
-std::size_t bytes_of(int engine);
-
-int table() {
+int time_table() {
   std::printf("%-80s %12s %12s %7s\n", "calls, without text", "ours, ns", "second, ns", "ratio");
   for (const Case& it : cases()) {
     if (run(0, it.all) != run(1, it.all)) {
@@ -318,23 +321,51 @@ int table() {
     const auto time = both([&](int e) { return run_text(e, job, out); });
     std::printf("%-80s %12.0f %12.0f %7.2f\n", (std::to_string(pins) + " pins").c_str(), time.first * 1e9, time.second * 1e9, time.first / time.second);
   }
-  const std::size_t idle[2] = {stack_of(0, {}), stack_of(1, {})};
-  std::printf("%-80s %12s %12s\n", "peak stack above that of a net without calls, bytes", "ours", "second");
+  return 0;
+}
+
+int space_table() {
+  // A thread that calls nothing; then each case once before, so that no C function is bound while it is measured.
+  const std::size_t idle = stack_of(2, {});
+  std::printf("%-80s %12s %12s\n", "peak stack, bytes", "ours", "second");
   for (const Case& it : cases()) {
-    std::printf("%-80s %12zu %12zu\n", it.name.c_str(), stack_of(0, it.all) - idle[0], stack_of(1, it.all) - idle[1]);
+    for (int e : {0, 1}) run(e, it.all);
+    std::printf("%-80s %12zu %12zu\n", it.name.c_str(), stack_of(0, it.all) - idle, stack_of(1, it.all) - idle);
+  }
+  const Calls none;
+  for (int e : {0, 1}) {
+    taken = pieces = 0;
+    run(e, none);
+    std::printf("heap of a net, %s: %zu bytes in %zu pieces\n", e == 0 ? "ours" : "second", taken, pieces);
   }
   return 0;
 }
 
 }  // namespace
 
+extern "C" {
+void* __real_malloc(std::size_t bytes);
+void* __wrap_malloc(std::size_t bytes) {
+  taken += bytes, ++pieces;
+  return __real_malloc(bytes);
+}
+}
+
+void* operator new(std::size_t bytes) { return __wrap_malloc(bytes); }
+void operator delete(void* at) noexcept { std::free(at); }
+void operator delete(void* at, std::size_t) noexcept { std::free(at); }
+
 int main(int argc, char** argv) {
-  if (argc == 4 && std::string(argv[1]) == "only") {
-    const auto all = cases();
+  const std::string mode = argc > 1 ? argv[1] : "";
+  if (mode == "time") return time_table();
+  if (mode == "space") return space_table();
+  const auto all = cases();
+  if (mode == "only" && argc == 4) {
     const int engine = std::atoi(argv[2]), number = std::atoi(argv[3]);
     const Case& it = all.at(static_cast<std::size_t>(number / 2));
     std::printf("%s %llu\n", it.name.c_str(), static_cast<unsigned long long>(run(engine, number % 2 ? it.before : it.all)));
     return 0;
   }
-  return table();
+  std::printf("%zu\n", all.size());
+  return 0;
 }
