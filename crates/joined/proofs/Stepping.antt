@@ -13,7 +13,7 @@ use Rattle.build_laws.specs.Joining.Joins.{join}
 use Rattle.build_laws.specs.declared.pair.Pair.{Pair}
 use Rattle.build_laws.proofs.Joined.{among_kept}
 use Rattle.build_laws.proofs.Meeting.{Old, far_kept, member_of, new_member, old_member, others_first, others_second, step_hung, step_length}
-use Rattle.joined.specs.Joinings.{Joinable, Rising, JoiningState, Stepped}
+use Rattle.joined.specs.Joinings.{Joinable, Rising, Rows, JoiningState, Stepped}
 use Rattle.joined.specs.Pairs.{FirstPairs, Partner, PairsReady}
 use Rattle.joined.proofs.Keeping.{among_here, kept_two_less}
 use Rattle.joined.proofs.Partnering.{then_lead}
@@ -117,6 +117,12 @@ module _ (d : Spot → Spot → ℕ) (j : Spot → Spot → Spot → Spot) (rows
 
     pub rising_at : Rising group'
     rising_at = subst Rising (sym grouped) (step_rising d j rows t group s.hung a b q s.rising)
+
+    pub rows_at : Rows rows' group'
+    rows_at =
+        let P : List Row → Type 0 = λ xs. Rows xs group' in
+        let Q : List ℕ → Type 0 = λ xs. Rows (meet_row d j rows a b) xs in
+        subst P (sym er) (subst Q (sym grouped) (λ g i. (step_hung d j rows t group s.hung a b q g i).row))
 
     pub ready_at : (olds : List Pair) → olds ≡ F → PairsReady d j rows' group' a b new olds
     ready_at olds eo =

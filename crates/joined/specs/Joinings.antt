@@ -21,6 +21,10 @@ use Rattle.joined.specs.Pairs.{FirstPairs}
 abbrev pub Rising : List ℕ → Type 0
 Rising group = (i : ℕ) → i + 1 < length group → slice_index group i < slice_index group (i + 1)
 
+-- Each member is a row.
+abbrev pub Rows : List Row → List ℕ → Type 0
+Rows rows group = (g : ℕ) → Among g group → g < length rows
+
 -- Each member is a row on the driver.
 abbrev pub AllHang : List Row → List ℕ → Type 0
 AllHang rows group = (g : ℕ) → Among g group → Child rows 0 g

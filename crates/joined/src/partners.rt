@@ -3,7 +3,7 @@ ghost use Rattle.order.specs.Bests.{BestOf, Decides};
 ghost use Rattle.space.specs.declared.TheConstants.{LONGEST};
 ghost use Rattle.tree.specs.declared.table.TheConstants.{ROWS};
 ghost use Rattle.build_laws.specs.Pairs.{pair_before};
-ghost use Rattle.joined.specs.Joinings.{Rising};
+ghost use Rattle.joined.specs.Joinings.{Rising, Rows};
 
 use build_laws::Pair;
 use search::first;
@@ -41,6 +41,7 @@ pub(crate) struct Group<'a, S: Joining> {
     /// The numbers of the members' rows, rising; at most `ROWS`.
     pub members: &'a [usize],
     ghost few: { length members.now ≤ ROWS },
+    ghost rows: { Rows table.now.rows members.now },
     ghost rising: { Rising members.now },
 }
 
@@ -79,6 +80,7 @@ impl<'a, S: Joining> Group<'a, S> {
         ensures room { vec_capacity pairs.new ≡ vec_capacity pairs.old }
     {
         pairs.clear();
+        let rows = self.table.rows();
         let driver = self.table.at(0).spot;
         let spot = self.table.at(b).spot;
         let mut least = 0;
@@ -86,7 +88,7 @@ impl<'a, S: Joining> Group<'a, S> {
             if a >= b || least > most {
                 break;
             }
-            let far = self.far(driver, self.table.at(a).spot, spot);
+            let far = self.far(driver, rows[a].spot, spot);
             if far >= least {
                 pairs.push_reserved(Pair { far, a, b });
                 least = far + 1;

@@ -7,7 +7,7 @@ use Rattle.joined.specs.Pairs.{FirstPairs}
 use Rattle.build_laws.specs.Pairs.{pair_before}
 use Rattle.joined.proofs.Keeping.{kept_few}
 use Rattle.joined.proofs.Partnering.{best_farthest, best_near, best_none, firsts_best}
-use Rattle.joined.proofs.Stepping.{ready_at, rising_at, shorter_at, step_parts, stepped_at}
+use Rattle.joined.proofs.Stepping.{ready_at, rising_at, rows_at, shorter_at, step_parts, stepped_at}
 use Rattle.joined.proofs.joining.Joiner.step.Goals as goal
 
 pub returns-in_default : goal.returns-in_default
@@ -91,6 +91,23 @@ invariant_of-group-clause-rising g c =
     let e : left ≡ filter (others p.a p.b) group ++ c.in-Some-insert_meet.new ∷ [] =
     c.as_slice-2.ensures.value ∙ c.push_reserved.ensures.items ∙ ap (λ xs. xs ++ c.in-Some-insert_meet.new ∷ []) c.leave.ensures.items in
     rising_at d j rows t.tree group F c.requires p.a p.b best.0.pair c.insert_meet.new.table.rows left c.in-Some-insert_meet.new parted.2 parted.1 e
+
+pub invariant_of-group-clause-rows : goal.invariant_of-group-clause-rows
+invariant_of-group-clause-rows g c =
+    let t = c.args.table.now in
+    let rows = t.rows in
+    let d = capped_distance g.S.Space c.args.space.now in
+    let j = meet_or_start g.S.Space g.S.Joining c.args.space.now in
+    let group = vec_items c.args.self.now.group in
+    let F = vec_items c.args.self.now.partners.firsts in
+    let p = c.in-Some.pair in
+    let P : List Pair → Type 0 = λ xs. FirstOf pair_before xs (Some p) in
+    let best = firsts_best d j rows group F (Some p) c.requires.firsts (subst P c.as_slice.ensures.value c.in-Some.ensures.first) in
+    let parted = c.in-Some-insert_meet.ensures in
+    let left = c.as_slice-2.result.now in
+    let e : left ≡ filter (others p.a p.b) group ++ c.in-Some-insert_meet.new ∷ [] =
+    c.as_slice-2.ensures.value ∙ c.push_reserved.ensures.items ∙ ap (λ xs. xs ++ c.in-Some-insert_meet.new ∷ []) c.leave.ensures.items in
+    rows_at d j rows t.tree group F c.requires p.a p.b best.0.pair c.insert_meet.new.table.rows left c.in-Some-insert_meet.new parted.2 parted.1 e
 
 pub renew-requires : goal.renew-requires
 renew-requires g c =

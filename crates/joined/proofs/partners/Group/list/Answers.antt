@@ -1,13 +1,24 @@
-use Rattle.std.proofs.Common.{◌≡◌, ℕ, [], ◌∷◌, get_or, vec_items, refl, add-one, ap, ◌∙◌, inl, inr, arith, rules}
+use Rattle.std.proofs.Common.{◌≡◌, ℕ, [], ◌∷◌, length, get_or, vec_items, refl, add-one, ap, ◌∙◌, inl, inr, arith, rules}
 use Rattle.order.specs.Firsts.Among.{here}
 use Rattle.order.proofs.Finding.{among_right}
 use Rattle.space.specs.Totals.{meet_or_start, capped_distance}
 use Rattle.build_laws.specs.Joining.{far_of}
 use Rattle.build_laws.specs.declared.pair.Pair.{Pair}
 use Rattle.joined.specs.Pairs.{PartnerAt}
+use Rattle.joined.proofs.Keeping.{among_here}
 use Rattle.joined.proofs.Partnering.{list_ends, list_more, list_same}
 use Rattle.joined.proofs.partners.Group.list.Goals as goal
 use Rattle.joined.proofs.partners.Group.list.Goals.{then-far-least, else-far-least, then-a-b-via-then-a-b, then-a-b-via-else-a-b+then-least-most}
+
+pub bounds-rows-a : goal.bounds-rows-a
+bounds-rows-a g c =
+    let q = c.args.self.now in
+    omega (arith, q.rows (get_or q.members.now c.loop-a.a-index 0) (among_here q.members.now c.loop-a.a-index 0 c.loop-a-test.true), ap length c.rows-rows.ensures)
+
+pub offset_bounds-rows-a : goal.offset_bounds-rows-a
+offset_bounds-rows-a g c =
+    let q = c.args.self.now in
+    omega (arith, q.rows (get_or q.members.now c.loop-a.a-index 0) (among_here q.members.now c.loop-a.a-index 0 c.loop-a-test.true), q.table.now.few)
 
 pub loop-a-preserved : goal.loop-a-preserved
 loop-a-preserved g c =
