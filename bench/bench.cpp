@@ -14,6 +14,7 @@
 #include <cstdio>
 #include <cstdlib>
 #include <cstring>
+#include <functional>
 #include <memory>
 #include <string>
 #include <vector>
@@ -101,7 +102,6 @@ std::uint64_t second_calls(const std::int32_t* calls, std::size_t count) {
 
 std::uint64_t run(int engine, const Calls& calls) {
   const auto& n = calls.numbers;
-  if (engine == 2) return 0;
   return engine == 0 ? bench_calls(0, 0, n.data(), n.size()) : second_calls(n.data(), n.size());
 }
 
@@ -269,28 +269,20 @@ std::pair<double, double> both(F&& f) {
 // What was asked of malloc and operator new (the linker puts these in their place: --wrap).
 std::size_t taken, pieces;
 
-// The bytes of stack below the call, by a thread whose stack was painted.
-struct Painted {
-  int engine;
-  const Calls* calls;
-};
-
-std::size_t stack_of(int engine, const Calls& calls) {
+// The bytes of stack that a call takes, by a thread whose stack was painted.
+std::size_t stack_of(const std::function<void()>& call) {
   constexpr std::size_t kSize = 1 << 20;
   auto* stack = static_cast<unsigned char*>(std::aligned_alloc(4096, kSize));
   std::memset(stack, 0xA5, kSize);
   pthread_attr_t attributes;
   pthread_attr_init(&attributes);
   pthread_attr_setstack(&attributes, stack, kSize);
-  Painted painted{engine, &calls};
   pthread_t thread;
   const auto body = [](void* given) -> void* {
-    const auto* p = static_cast<Painted*>(given);
-    volatile std::uint64_t sum = run(p->engine, *p->calls);
-    (void)sum;
+    (*static_cast<const std::function<void()>*>(given))();
     return nullptr;
   };
-  pthread_create(&thread, &attributes, body, &painted);
+  pthread_create(&thread, &attributes, body, const_cast<std::function<void()>*>(&call));
   pthread_join(thread, nullptr);
   std::size_t low = 0;
   while (low < kSize && stack[low] == 0xA5) ++low;
@@ -325,12 +317,27 @@ int time_table() {
 }
 
 int space_table() {
-  // A thread that calls nothing; then each case once before, so that no C function is bound while it is measured.
-  const std::size_t idle = stack_of(2, {});
+  // Each case is run once before, so that no C function is bound while it is measured; what an empty call takes is taken off.
+  const std::size_t idle = stack_of([] {});
+  volatile std::uint64_t kept = 0;
   std::printf("%-80s %12s %12s\n", "peak stack, bytes", "ours", "second");
   for (const Case& it : cases()) {
-    for (int e : {0, 1}) run(e, it.all);
-    std::printf("%-80s %12zu %12zu\n", it.name.c_str(), stack_of(0, it.all) - idle, stack_of(1, it.all) - idle);
+    std::size_t stack[2];
+    for (int e : {0, 1}) {
+      kept = run(e, it.all);
+      stack[e] = stack_of([&] { kept = run(e, it.all); }) - idle;
+    }
+    std::printf("%-80s %12zu %12zu\n", it.name.c_str(), stack[0], stack[1]);
+  }
+  for (int pins : {2, 64, 256}) {
+    const std::string job = text_of(whole_net(pins).all);
+    std::vector<unsigned char> out(65536);
+    std::size_t stack[2];
+    for (int e : {0, 1}) {
+      kept = run_text(e, job, out);
+      stack[e] = stack_of([&] { kept = run_text(e, job, out); }) - idle;
+    }
+    std::printf("%-80s %12zu %12zu\n", (std::to_string(pins) + " pins as text").c_str(), stack[0], stack[1]);
   }
   const Calls none;
   for (int e : {0, 1}) {
