@@ -14,7 +14,7 @@ cmp docs/picture.job crates/saltpic/data/job.txt
 cmp docs/picture.svg crates/saltpic/stdout
 room=$(mktemp -d)
 trap 'rm -rf "$room"' EXIT
-rt ci 2>&1 | tee "$room/log" | sed '$d' || { tail -n 1 "$room/log"; exit 1; }
+rt ci 2>&1 | tee "$room/log" | sed -u '$d' || { tail -n 1 "$room/log"; exit 1; }
 if grep -E '^rt: ok' "$room/log" | grep -qE ', [1-9][0-9]* bad'; then
   echo "test.sh: an edit of must-fail/ could not be tried: read the lines BAD EDIT above" >&2
   exit 1
