@@ -1,9 +1,10 @@
-// The benchmark: both engines on the same nets, side by side in one run, in turn. See README.md.
+// The benchmark: both engines on the same nets, side by side in one run, in turn. See docs/speed.md.
 //
 //   bench time             nanoseconds of both engines and the ratio
 //   bench space            peak stack of the calls, and what a net takes from the heap
 //   bench cases            how many cases there are
 //   bench only ENGINE N    makes the calls of case N / 2 once, by this engine (0) or the second one (1); where N is odd, only those that are taken off
+//   bench times N          how often case N makes what it measures, and whether something is taken off
 #include "../compare/engine.cpp"
 
 #include <malloc.h>
@@ -33,11 +34,12 @@ enum Code { kPin = 1, kAllow, kSteiner, kEdge, kUnseed, kSpan, kStraight, kHook,
 
 struct Calls {
   std::vector<std::int32_t> numbers;
+  std::uint32_t space = 0;  // 0: plane, 1: air
   void add(int code, int a = 0, int b = 0, int c = 0) {
     for (int n : {code, a, b, c}) numbers.push_back(n);
   }
-  void add_times(int times, int code) {
-    for (int i = 0; i < times; ++i) add(code);
+  void add_times(int times, int code, int a = 0) {
+    for (int i = 0; i < times; ++i) add(code, a);
   }
 };
 
@@ -75,11 +77,12 @@ std::uint64_t paths_of(const N& net, std::size_t pins) {
   return worst.ok() ? mixed(sum, worst.value.figure) : sum;
 }
 
-// The same answers as `bench_calls`, by the second engine, over plane.
-std::uint64_t second_calls(const std::int32_t* calls, std::size_t count) {
-  auto net = std::make_unique<second::Net<second::Plane>>(second::Plane{});
+template <class S>
+std::uint64_t calls_on(S space, const std::int32_t* calls, std::size_t count) {
+  auto net = std::make_unique<second::Net<S>>(space);
   std::uint64_t sum = 0;
-  for (const std::int32_t* c = calls; c + 4 <= calls + count; c += 4) {
+  for (std::size_t i = 0; i + 4 <= count; i += 4) {
+    const std::int32_t* c = calls + i;
     std::uint64_t answer = 0;
     switch (c[0]) {
       case kPin: answer = told(net->pin({c[1], c[2], c[3]})); break;
@@ -92,17 +95,28 @@ std::uint64_t second_calls(const std::int32_t* calls, std::size_t count) {
       case kHook: answer = told(net->hook()); break;
       case kRows: answer = rows_of(*net); break;
       case kPaths: answer = paths_of(*net, c[1]); break;
-      case kJoined: answer = told(net->joined()); break;
-      case kShare: answer = told(net->share()); break;
+      case kJoined:
+        if constexpr (S::joins) answer = told(net->joined());
+        break;
+      case kShare:
+        if constexpr (S::joins) answer = told(net->share());
+        break;
     }
     sum = mixed(sum, answer);
   }
   return sum;
 }
 
+// The same answers as `bench_calls`, by the second engine.
+std::uint64_t second_calls(std::uint32_t space, const std::int32_t* calls, std::size_t count) {
+  return space == 0 ? calls_on(second::Plane{}, calls, count) : calls_on(second::Air{}, calls, count);
+}
+
 std::uint64_t run(int engine, const Calls& calls) {
+  static const std::int32_t none = 0;  // a slice has an address, even an empty one
   const auto& n = calls.numbers;
-  return engine == 0 ? bench_calls(0, 0, n.data(), n.size()) : second_calls(n.data(), n.size());
+  if (n.empty()) return engine == 0 ? bench_calls(calls.space, 0, &none, 0) : second_calls(calls.space, &none, 0);
+  return engine == 0 ? bench_calls(calls.space, 0, n.data(), n.size()) : second_calls(calls.space, n.data(), n.size());
 }
 
 // ---- cases -------------------------------------------------------------------------------------------------------------------------
@@ -119,10 +133,11 @@ struct Random {
   int coordinate() { return below(2000001) - 1000000; }
 };
 
-// `before` alone is run too, and its time is taken off.
+// What is measured is made `times` times. Where `before` has calls, they are run alone too, and taken off.
 struct Case {
   std::string name;
   Calls before, all;
+  int times = 1;
 };
 
 Calls pins_at_random(int pins, std::uint64_t seed) {
@@ -133,7 +148,7 @@ Calls pins_at_random(int pins, std::uint64_t seed) {
 }
 
 Case whole_net(int pins) {
-  Case it{std::to_string(pins) + " pins", {}, pins_at_random(pins, static_cast<std::uint64_t>(pins))};
+  Case it{std::to_string(pins) + " pins, whole net", {}, pins_at_random(pins, static_cast<std::uint64_t>(pins))};
   it.all.add(kAllow, 1, 4);
   it.all.add(kSpan);
   it.all.add(kJoined);
@@ -151,14 +166,15 @@ Case step_of(const char* name, int pins, int step) {
     if (k == 3) calls.add(kJoined);
     if (k == 4) calls.add_times(4, kHook);
     if (k == 5) calls.add_times(4, kShare);
-    if (k == 6) calls.add(kRows);
-    if (k == 7) calls.add(kPaths, pins);
+    if (k == 6) calls.add_times(100, kRows);
+    if (k == 7) calls.add_times(100, kPaths, pins);
   };
   if (step == 0) return {name, {}, calls};
   for (int k = 1; k < step; ++k) more(k);
   Case it{name, calls, {}};
   more(step);
   it.all = calls;
+  it.times = step > 5 ? 100 : 1;
   return it;
 }
 
@@ -183,6 +199,7 @@ Case daisy_chain() {
   it.before.add(kAllow, 1, 4);
   it.all = it.before;
   it.all.add_times(20, kStraight);
+  it.times = 20;
   return it;
 }
 
@@ -195,6 +212,7 @@ Case long_chain() {
   it.before.add(kAllow, 1000, 1);
   it.all = it.before;
   for (int i = 0; i < 20; ++i) it.all.add(kStraight), it.all.add(kHook);
+  it.times = 20;
   return it;
 }
 
@@ -204,7 +222,20 @@ Case one_hook() {
   it.before.add(kSpan);
   it.before.add(kJoined);
   it.all = it.before;
-  it.all.add_times(20, kHook);
+  it.all.add_times(1000, kHook);
+  it.times = 1000;
+  return it;
+}
+
+// Air has no joined tree and no shares.
+Case over_air() {
+  Case it{"256 pins over air: pins, span, straight, four hooks, rows", {}, pins_at_random(256, 256)};
+  it.all.add(kAllow, 1, 4);
+  it.all.add(kSpan);
+  it.all.add(kStraight);
+  it.all.add_times(4, kHook);
+  it.all.add(kRows);
+  it.all.space = 1;
   return it;
 }
 
@@ -215,6 +246,7 @@ std::vector<Case> cases() {
   all.push_back(daisy_chain());
   all.push_back(long_chain());
   all.push_back(one_hook());
+  all.push_back(over_air());
   const char* names[] = {"256: pins", "256: span", "256: straight", "256: joined", "256: four hooks", "256: four shares", "256: rows", "256: paths, worst"};
   for (int step = 0; step < 8; ++step) all.push_back(step_of(names[step], 256, step));
   return all;
@@ -269,7 +301,13 @@ std::pair<double, double> both(F&& f) {
 // What was asked of malloc and operator new (the linker puts these in their place: --wrap).
 std::size_t taken, pieces;
 
-// The bytes of stack that a call takes, by a thread whose stack was painted.
+struct Painted {
+  const std::function<void()>* call;
+  unsigned char* stack;
+  std::size_t top;  // where the stack stood when the call was made
+};
+
+// The bytes of stack that a call takes: a thread's stack is painted, and what was written below the place from which the call is made is counted.
 std::size_t stack_of(const std::function<void()>& call) {
   constexpr std::size_t kSize = 1 << 20;
   auto* stack = static_cast<unsigned char*>(std::aligned_alloc(4096, kSize));
@@ -278,16 +316,21 @@ std::size_t stack_of(const std::function<void()>& call) {
   pthread_attr_init(&attributes);
   pthread_attr_setstack(&attributes, stack, kSize);
   pthread_t thread;
+  Painted painted{&call, stack, 0};
   const auto body = [](void* given) -> void* {
-    (*static_cast<const std::function<void()>*>(given))();
+    auto* p = static_cast<Painted*>(given);
+    unsigned char here = 0;
+    p->top = static_cast<std::size_t>(reinterpret_cast<std::uintptr_t>(&here) - reinterpret_cast<std::uintptr_t>(p->stack));
+    std::memset(p->stack, 0xA5, p->top - 1024);  // what starting the thread left
+    (*p->call)();
     return nullptr;
   };
-  pthread_create(&thread, &attributes, body, const_cast<std::function<void()>*>(&call));
+  pthread_create(&thread, &attributes, body, &painted);
   pthread_join(thread, nullptr);
   std::size_t low = 0;
-  while (low < kSize && stack[low] == 0xA5) ++low;
+  while (low < painted.top && stack[low] == 0xA5) ++low;
   std::free(stack);
-  return kSize - low;
+  return painted.top - low;
 }
 
 int time_table() {
@@ -299,14 +342,16 @@ int time_table() {
     }
     const auto all = both([&](int e) { return run(e, it.all); });
     const auto before = it.before.numbers.empty() ? std::make_pair(0.0, 0.0) : both([&](int e) { return run(e, it.before); });
-    const double ours = all.first - before.first, theirs = all.second - before.second;
+    const double ours = (all.first - before.first) / it.times, theirs = (all.second - before.second) / it.times;
     std::printf("%-80s %12.0f %12.0f %7.2f\n", it.name.c_str(), ours * 1e9, theirs * 1e9, ours / theirs);
   }
   std::printf("%-80s %12s %12s %7s\n", "the same as text, with all rows listed", "ours, ns", "second, ns", "ratio");
   for (int pins : {2, 5, 9, 16, 32, 64, 128, 256}) {
     const std::string job = text_of(whole_net(pins).all);
     std::vector<unsigned char> out(65536);
-    if (run_text(0, job, out) != run_text(1, job, out)) {
+    std::vector<unsigned char> other(65536);
+    const std::size_t bytes = run_text(0, job, out);
+    if (bytes != run_text(1, job, other) || !std::equal(out.begin(), out.begin() + static_cast<std::ptrdiff_t>(bytes), other.begin())) {
       std::printf("%d pins: the engines differ\n", pins);
       return 1;
     }
@@ -317,27 +362,28 @@ int time_table() {
 }
 
 int space_table() {
-  // Each case is run once before, so that no C function is bound while it is measured; what an empty call takes is taken off.
-  const std::size_t idle = stack_of([] {});
+  // Each case is run once before, so that no C function is bound while it is measured. The frame of the benchmark's own function counts too.
   volatile std::uint64_t kept = 0;
   std::printf("%-80s %12s %12s\n", "peak stack, bytes", "ours", "second");
   for (const Case& it : cases()) {
     std::size_t stack[2];
     for (int e : {0, 1}) {
       kept = run(e, it.all);
-      stack[e] = stack_of([&] { kept = run(e, it.all); }) - idle;
+      stack[e] = stack_of([&] { kept = run(e, it.all); });
     }
     std::printf("%-80s %12zu %12zu\n", it.name.c_str(), stack[0], stack[1]);
   }
-  for (int pins : {2, 64, 256}) {
-    const std::string job = text_of(whole_net(pins).all);
+  std::vector<std::pair<std::string, std::string>> jobs;
+  for (int pins : {2, 64, 256}) jobs.emplace_back(std::to_string(pins) + " pins as text", text_of(whole_net(pins).all));
+  jobs.emplace_back("chain of 512 nodes as text", text_of(long_chain().all));
+  for (const auto& [name, job] : jobs) {
     std::vector<unsigned char> out(65536);
     std::size_t stack[2];
     for (int e : {0, 1}) {
       kept = run_text(e, job, out);
-      stack[e] = stack_of([&] { kept = run_text(e, job, out); }) - idle;
+      stack[e] = stack_of([&] { kept = run_text(e, job, out); });
     }
-    std::printf("%-80s %12zu %12zu\n", (std::to_string(pins) + " pins as text").c_str(), stack[0], stack[1]);
+    std::printf("%-80s %12zu %12zu\n", name.c_str(), stack[0], stack[1]);
   }
   const Calls none;
   for (int e : {0, 1}) {
@@ -370,7 +416,12 @@ int main(int argc, char** argv) {
   if (mode == "only" && argc == 4) {
     const int engine = std::atoi(argv[2]), number = std::atoi(argv[3]);
     const Case& it = all.at(static_cast<std::size_t>(number / 2));
-    std::printf("%s %llu\n", it.name.c_str(), static_cast<unsigned long long>(run(engine, number % 2 ? it.before : it.all)));
+    std::printf("%s: %llu\n", it.name.c_str(), static_cast<unsigned long long>(run(engine, number % 2 ? it.before : it.all)));
+    return 0;
+  }
+  if (mode == "times" && argc == 3) {
+    const Case& it = all.at(static_cast<std::size_t>(std::atoi(argv[2])));
+    std::printf("%d %d\n", it.times, it.before.numbers.empty() ? 0 : 1);
     return 0;
   }
   std::printf("%zu\n", all.size());

@@ -16,8 +16,13 @@ command -v valgrind > /dev/null || exit 0
 count() { valgrind --tool=callgrind --callgrind-out-file=/dev/null "$bench" only "$1" "$2" 2>&1 | sed -n 's/.*Collected : \([0-9]*\).*/\1/p'; }
 printf '%-80s %12s %12s %7s\n' 'instructions, without text' ours second ratio
 for ((n = 0; n < $("$bench" cases); ++n)); do
-  name=$("$bench" only 0 $((2 * n)) | sed 's/ [0-9]*$//')
-  ours=$(($(count 0 $((2 * n))) - $(count 0 $((2 * n + 1)))))
-  second=$(($(count 1 $((2 * n))) - $(count 1 $((2 * n + 1)))))
-  printf '%-80s %12d %12d %7s\n' "$name" "$ours" "$second" "$(awk "BEGIN { printf \"%.2f\", $ours / $second }")"
+  name=$("$bench" only 0 $((2 * n)) | sed 's/: [0-9]*$//')
+  read -r times off <<< "$("$bench" times "$n")"
+  # Starting the program is taken off where nothing else is: an empty run of it.
+  nothing=$(valgrind --tool=callgrind --callgrind-out-file=/dev/null "$bench" times "$n" 2>&1 | sed -n 's/.*Collected : \([0-9]*\).*/\1/p')
+  for engine in 0 1; do
+    if [ "$off" = 1 ]; then less=$(count $engine $((2 * n + 1))); else less=$nothing; fi
+    took[engine]=$((($(count $engine $((2 * n))) - less) / times))
+  done
+  printf '%-80s %12d %12d %7s\n' "$name" "${took[0]}" "${took[1]}" "$(awk "BEGIN { printf \"%.2f\", ${took[0]} / ${took[1]} }")"
 done

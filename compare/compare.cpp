@@ -311,12 +311,17 @@ int write_cases(const std::string& folder, std::uint64_t n, std::uint64_t first_
     FILE* in = fopen(name.c_str(), "wb");
     FILE* out = fopen((name + ".stdout").c_str(), "wb");
     if (!in || !out) return 1;
-    fwrite(job.data(), 1, job.size(), in);
-    fwrite(ran.out.data(), 1, ran.bytes, out);
-    fclose(in);
-    fclose(out);
+    const bool wrote = fwrite(job.data(), 1, job.size(), in) == job.size() && fwrite(ran.out.data(), 1, ran.bytes, out) == ran.bytes;
+    if (fclose(in) != 0 || fclose(out) != 0 || !wrote) return 1;
   }
   return 0;
+}
+
+// Reads a whole number, and nothing else.
+bool number(const char* text, std::uint64_t& n) {
+  char* end = nullptr;
+  n = std::strtoull(text, &end, 10);
+  return *text >= '0' && *text <= '9' && *end == '\0';
 }
 
 }  // namespace
@@ -325,8 +330,11 @@ int main(int argc, char** argv) {
   const std::string mode = argc > 2 ? argv[1] : "";
   const bool by_name = mode == "--program" || mode == "--write";
   const int at = by_name ? 3 : 1;
-  const std::uint64_t n = argc > at ? std::strtoull(argv[at], nullptr, 10) : kJobs;
-  const std::uint64_t first_seed = argc > at + 1 ? std::strtoull(argv[at + 1], nullptr, 10) : 1;
+  std::uint64_t n = kJobs, first_seed = 1;
+  if (argc > at + 2 || (argc > at && !number(argv[at], n)) || (argc > at + 1 && !number(argv[at + 1], first_seed)) || n == 0) {
+    std::puts("compare [N [S]], compare --program PATH [N [S]] or compare --write FOLDER [N [S]]; N is 1 or more");
+    return 2;
+  }
   if (mode == "--program") return by_program(argv[2], n, first_seed);
   if (mode == "--write") return write_cases(argv[2], n, first_seed);
 #ifndef PROGRAM_ONLY

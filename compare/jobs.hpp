@@ -110,9 +110,15 @@ class Maker {
     static const char* const limits[] = {"-2147483649", "-2147483648", "2147483647", "2147483648", "0", "-1", "1", "65535", "65536", "1000",
         "1001", "4294967295", "4294967296", "1000000", "-1000000", "1000001", "-1000001", "15", "16", "9999999999", "10000000000", "255", "256"};
     switch (r_.below(10)) {
-      case 8: return line(std::string(r_.percent(70) ? "P," : "V,") + r_.one_of(limits) + "," + r_.one_of(limits) + "," + (r_.percent(50) ? "0" : r_.one_of(limits)));
-      case 9: return r_.percent(30) ? line(std::string("K,") + r_.one_of(limits))
-                                    : line(std::string(r_.percent(50) ? "A," : "E,") + r_.one_of(limits) + "," + r_.one_of(limits));
+      case 8: {
+        const std::string head = r_.percent(70) ? "P," : "V,", x = r_.one_of(limits), y = r_.one_of(limits), level = r_.percent(50) ? "0" : r_.one_of(limits);
+        return line(head + x + "," + y + "," + level);
+      }
+      case 9: {
+        if (r_.percent(30)) return line(std::string("K,") + r_.one_of(limits));
+        const std::string head = r_.percent(50) ? "A," : "E,", a = r_.one_of(limits), b = r_.one_of(limits);
+        return line(head + a + "," + b);
+      }
       case 0: {  // lines about 80 bytes long
         const std::size_t length = static_cast<std::size_t>(r_.range(78, 83));
         static const char* const heads[] = {"P,", "M", "W,plane", "K,", "Q", ",", "P,1,2,0,", "A,1,"};
@@ -121,7 +127,10 @@ class Maker {
         while (text.size() < length) text += fill;
         return line(text);
       }
-      case 1: return line("E," + n(r_.range(0, most + 3)) + "," + n(r_.range(0, most + 3)));
+      case 1: {
+        const std::int64_t a = r_.range(0, most + 3), b = r_.range(0, most + 3);
+        return line("E," + n(a) + "," + n(b));
+      }
       case 2: return line(std::string("") + r_.one_of({'U', 'M', 'D', 'J', 'H', 'S', 'T', 'X'}));
       case 3: return line("K," + n(r_.range(0, most + 2)));
       case 4: return line(std::string("V,") + spot_text(somewhere()));
@@ -190,10 +199,14 @@ class Maker {
       }
       case 7: {                                                                                      // clusters
         const std::int64_t far = 100 * (1 + wide_x_);
-        return {c.x + far * r_.range(0, 2) + r_.range(0, 4), c.y + far * r_.range(0, 1) + r_.range(0, 4), a_level()};
+        const std::int64_t column = r_.range(0, 2), dx = r_.range(0, 4), row = r_.range(0, 1), dy = r_.range(0, 4);
+        return {c.x + far * column + dx, c.y + far * row + dy, a_level()};
       }
       case 8: {                                                                                      // the ends of plane
-        const auto end = [this] { return r_.one_of({-1000000, 1000000, 999999, 0, -999999}) + (r_.percent(3) ? r_.range(-1, 1) : 0); };
+        const auto end = [this] {
+          const std::int64_t at = r_.one_of({-1000000, 1000000, 999999, 0, -999999});
+          return at + (r_.percent(3) ? r_.range(-1, 1) : 0);
+        };
         return {end(), end(), a_level()};
       }
       case 9: {                                                                                      // one quarter, on a ring of equal |x| + |y|
@@ -263,7 +276,10 @@ class Maker {
       }
       bool done = join(order[i], order[to]);
       for (std::size_t t = 0; !done && t < i; ++t) done = join(order[i], order[t]);
-      if (r_.percent(3)) line("E," + n(r_.range(0, static_cast<std::int64_t>(count))) + "," + n(r_.range(0, static_cast<std::int64_t>(count))));
+      if (r_.percent(3)) {
+        const std::int64_t a = r_.range(0, static_cast<std::int64_t>(count)), b = r_.range(0, static_cast<std::int64_t>(count));
+        line("E," + n(a) + "," + n(b));
+      }
     }
   }
 
@@ -286,7 +302,8 @@ class Maker {
       allowed_ = true;
       return line(std::string("A,") + r_.one_of(usual));
     }
-    line("A," + n(r_.range(0, 1010)) + "," + n(r_.range(0, 1010)));
+    const std::int64_t p = r_.range(0, 1010), q = r_.range(0, 1010);
+    line("A," + n(p) + "," + n(q));
   }
 
   void reading(std::int64_t most) {
@@ -502,7 +519,12 @@ class Maker {
         break;
       case 7: text_.insert(from, "\n"); break;
       case 8: text_.insert(to, "\r"); break;
-      case 9: text_.insert(to, static_cast<std::size_t>(std::max<std::int64_t>(0, r_.range(79, 82) - static_cast<std::int64_t>(old.size()))), r_.one_of({' ', '0', ','})); break;
+      case 9: {
+        const std::int64_t more = r_.range(79, 82) - static_cast<std::int64_t>(old.size());
+        const char with = r_.one_of({' ', '0', ','});
+        text_.insert(to, static_cast<std::size_t>(std::max<std::int64_t>(0, more)), with);
+        break;
+      }
       case 10: if (comma != std::string::npos) text_.insert(from + comma + 1, "0"); break;
       case 11: if (comma != std::string::npos) text_.insert(from + comma + 1, r_.percent(50) ? "+" : "-"); break;
       case 12: if (comma != std::string::npos) text_.insert(from + comma + 1, r_.percent(50) ? "-0," : "99999999999"); break;
