@@ -111,12 +111,12 @@ class Maker {
         "1001", "4294967295", "4294967296", "1000000", "-1000000", "1000001", "-1000001", "15", "16", "9999999999", "10000000000", "255", "256"};
     switch (r_.below(10)) {
       case 8: {
-        const std::string head = r_.percent(70) ? "P," : "V,", x = r_.one_of(limits), y = r_.one_of(limits), level = r_.percent(50) ? "0" : r_.one_of(limits);
+        const std::string level = r_.percent(50) ? "0" : r_.one_of(limits), y = r_.one_of(limits), x = r_.one_of(limits), head = r_.percent(70) ? "P," : "V,";
         return line(head + x + "," + y + "," + level);
       }
       case 9: {
         if (r_.percent(30)) return line(std::string("K,") + r_.one_of(limits));
-        const std::string head = r_.percent(50) ? "A," : "E,", a = r_.one_of(limits), b = r_.one_of(limits);
+        const std::string b = r_.one_of(limits), a = r_.one_of(limits), head = r_.percent(50) ? "A," : "E,";
         return line(head + a + "," + b);
       }
       case 0: {  // lines about 80 bytes long
@@ -128,7 +128,7 @@ class Maker {
         return line(text);
       }
       case 1: {
-        const std::int64_t a = r_.range(0, most + 3), b = r_.range(0, most + 3);
+        const std::int64_t b = r_.range(0, most + 3), a = r_.range(0, most + 3);
         return line("E," + n(a) + "," + n(b));
       }
       case 2: return line(std::string("") + r_.one_of({'U', 'M', 'D', 'J', 'H', 'S', 'T', 'X'}));
@@ -277,7 +277,7 @@ class Maker {
       bool done = join(order[i], order[to]);
       for (std::size_t t = 0; !done && t < i; ++t) done = join(order[i], order[t]);
       if (r_.percent(3)) {
-        const std::int64_t a = r_.range(0, static_cast<std::int64_t>(count)), b = r_.range(0, static_cast<std::int64_t>(count));
+        const std::int64_t b = r_.range(0, static_cast<std::int64_t>(count)), a = r_.range(0, static_cast<std::int64_t>(count));
         line("E," + n(a) + "," + n(b));
       }
     }
@@ -302,7 +302,7 @@ class Maker {
       allowed_ = true;
       return line(std::string("A,") + r_.one_of(usual));
     }
-    const std::int64_t p = r_.range(0, 1010), q = r_.range(0, 1010);
+    const std::int64_t q = r_.range(0, 1010), p = r_.range(0, 1010);
     line("A," + n(p) + "," + n(q));
   }
 
@@ -520,8 +520,8 @@ class Maker {
       case 7: text_.insert(from, "\n"); break;
       case 8: text_.insert(to, "\r"); break;
       case 9: {
-        const std::int64_t more = r_.range(79, 82) - static_cast<std::int64_t>(old.size());
         const char with = r_.one_of({' ', '0', ','});
+        const std::int64_t more = r_.range(79, 82) - static_cast<std::int64_t>(old.size());
         text_.insert(to, static_cast<std::size_t>(std::max<std::int64_t>(0, more)), with);
         break;
       }
