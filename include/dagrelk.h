@@ -55,7 +55,7 @@ struct dagrelk_outcome {
  * Memory. A net takes 271,360 bytes from malloc (on x86-64), in 18 pieces. The call asks for them when line 1 is an accepted W, and gives them
  * back before it returns. Only that can fail for want of memory.
  *
- * Stack. No call recurses. Jobs of 2 to 512 nodes took 4,175 bytes each (measured on x86-64; where C functions are bound lazily, some 3 KiB
+ * Stack. No call recurses. Jobs of 2 to 512 nodes took 4,303 bytes each (measured on x86-64; where C functions are bound lazily, some 3 KiB
  * more); plan 8 KiB.
  */
 struct dagrelk_outcome dagrelk_run(const uint8_t *job, size_t job_len, uint8_t *out, size_t out_len);
