@@ -59,13 +59,12 @@ impl<S: Space + Drop> Net<S> {
     pub fn new(heap: Global, space: S) -> Result<Net<S>, AllocError>
         ensures { IfOk result (λ n. n ≡ record { space = space; state = fresh }) }
     {
+        let state = NetState::new(heap)?;
         let spanner = Spanner::new(heap)?;
         let builder = Builder::new(heap)?;
         let joiner = Joiner::new(heap)?;
         let refiner = Refiner::new(heap)?;
         let sharer = Sharer::new(heap)?;
-        // The state comes last, with a piece of 1 KiB near its end: `NetState::new` says why.
-        let state = NetState::new(heap)?;
         Ok(Net {
             space,
             state,

@@ -89,10 +89,8 @@ impl NetState {
         ensures { IfOk result (λ n. n ≡ fresh) }
     {
         let spots = Vec::with_capacity(heap, PINS + POINTS)?;
-        let table = Tree::new(heap, Spot::default())?;
-        // The seed comes last. One of its pieces is small, and an allocator that caches small pieces, as glibc's, keeps that one when the net is
-        // dropped. So the memory before it does not reach the end of the heap, and is not given back to the system for the next net to take again.
         let seed = Seed::new(heap)?;
+        let table = Tree::new(heap, Spot::default())?;
         Ok(NetState {
             spots,
             pins: 0,
