@@ -9,6 +9,7 @@
 #include <cinttypes>
 #include <cstdio>
 #include <cstdlib>
+#include <filesystem>
 #include <map>
 #include <string>
 #include <utility>
@@ -267,17 +268,17 @@ constexpr std::size_t kMost = 65536;  // what saltjob reads and writes
 
 // What the program at `path` prints for the job.
 std::string printed(const std::string& path, const std::string& job) {
-  char name[] = "/tmp/compare-XXXXXX";
-  const int file = mkstemp(name);
+  std::string name = (std::filesystem::temp_directory_path() / "compare-XXXXXX").string();
+  const int file = mkstemp(name.data());
   if (file < 0 || write(file, job.data(), job.size()) != static_cast<ssize_t>(job.size())) std::abort();
   close(file);
   std::string out;
-  if (FILE* from = popen(("'" + path + "' < " + name).c_str(), "r")) {
+  if (FILE* from = popen(("'" + path + "' < '" + name + "'").c_str(), "r")) {
     char bytes[4096];
     for (std::size_t got; (got = fread(bytes, 1, sizeof bytes, from)) > 0;) out.append(bytes, got);
     if (pclose(from) != 0) out += "(the program failed)";
   }
-  unlink(name);
+  unlink(name.c_str());
   return out;
 }
 
