@@ -10,7 +10,8 @@ use Rattle.net_laws.specs.Spaces.{Keeps}
 use Rattle.net_laws.specs.declared.call.JoinCall.{JoinCall}
 use Rattle.net_laws.specs.declared.fault.Fault.{Fault}
 use Rattle.net_laws.proofs.Keeping.{run_keeps}
-use Rattle.guarantee.specs.CallsMade.{CallsMade, log_of}
+use Rattle.net_laws.proofs.Tying.{tied_step}
+use Rattle.guarantee.specs.CallsMade.{CallsMade, TiedIn, log_of}
 
 -- the newest call stands first in the log
 log_push : (cs : List JoinCall) (rs : List (Result ℕ Fault)) (c : JoinCall) (r : Result ℕ Fault) → length rs ≡ length cs → log_of (cs ++ c ∷ []) (rs ++ r ∷ []) ≡ record { call = c; answer = r } ∷ log_of cs rs
@@ -26,6 +27,11 @@ module _ (W : Geometry) (laws : Keeps W) (n₀ : State) where
     runs = ran;
     guarantee = λ f. let P : State → Type 0 = λ x. Runs W x (log_of cs rs) n in run_keeps W laws (subst P f ran);
   }
+
+  -- a run on a net that is tied leaves one that is tied
+  pub tied_run : {log : Log} {n : State} → TiedIn W n₀ → Runs W n₀ log n → TiedIn W n
+  tied_run t still = t
+  tied_run t (next {k} {m} {log} {c} {r} ran a) = tied_step W laws k m c r (tied_run t ran) a
 
   pub kept_none : CallsMade W n₀ [] [] n₀
   kept_none = by_runs [] [] n₀ refl still

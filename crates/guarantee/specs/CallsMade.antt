@@ -3,6 +3,7 @@ use Rattle.std.specs.Prelude.{◌≡◌, ℕ, List, [], ◌∷◌, ◌++◌, map
 use Rattle.net_laws.specs.Geometry.{Geometry}
 use Rattle.net_laws.specs.Guarantee.{Guarantee}
 use Rattle.net_laws.specs.Logs.{Log, Runs}
+use Rattle.net_laws.specs.Spaces.{Tied}
 use Rattle.net_laws.specs.States.{State, fresh}
 use Rattle.net_laws.specs.declared.call.Call.{Call}
 use Rattle.net_laws.specs.declared.call.JoinCall.{JoinCall}
@@ -29,3 +30,7 @@ pub record CallsMade (W : Geometry) (n₀ : State) (calls : List JoinCall) (answ
   pub each : length answers ≡ length calls
   pub runs : Runs W n₀ (log_of calls answers) n
   pub guarantee : n₀ ≡ fresh → Guarantee W (log_of calls answers) n
+
+-- The net n is tied to a space that is W to its calls.
+abbrev pub TiedIn : Geometry → State → Type 0
+TiedIn W n = Tied W.admitted W.width W.between n

@@ -3,7 +3,7 @@ ghost use Rattle.std.specs.Prelude.{◌≡◌, ℕ, ◌≤◌, min, map, length,
 ghost use Rattle.net_laws.specs.Spaces.{joining as joiningGeometry, wiring as wiringGeometry};
 ghost use Rattle.net_laws.specs.declared.fault.Fault.{Fault as NetFault};
 ghost use Rattle.net_laws.specs.Guarantee.{RunsKeep};
-ghost use Rattle.guarantee.specs.CallsMade.{CallsMade, wired};
+ghost use Rattle.guarantee.specs.CallsMade.{CallsMade, TiedIn, wired};
 
 use crate::answering::NetCall;
 use net::Net;
@@ -23,6 +23,7 @@ pub fn run<S: Space, C: NetCall<S>>(
     ensures rest { (k : ℕ) (d : SpecResult ℕ NetFault) → result ≤ k →
         slice_index_or answers.new k d ≡ slice_index_or answers.old k d }
     ensures stays { net.new.space ≡ net.old.space }
+    ensures tied { TiedIn (C.geometry net.old.space) net.old.state → TiedIn (C.geometry net.old.space) net.new.state }
 {
     let count = calls.len().min(answers.len());
     for (i, call) in calls[..count].iter().enumerate() {

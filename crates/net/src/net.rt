@@ -1,16 +1,17 @@
 ghost use Rattle.std.specs.Prelude.{◌≡◌, ◌<◌, true, is_err, is_ok, IfOk, Ok, Some};
+ghost use Rattle.net.specs.Held.{total_joining, total_wiring};
 ghost use Rattle.net.specs.NetValue.{Answered, JoinAnswered};
-ghost use Rattle.net_laws.specs.Answers.{AllowAnswer};
+ghost use Rattle.net_laws.specs.Answers.{AllowAnswer, EdgeAnswer, HookAnswer, JoinedAnswer, PinAnswer, ShareAnswer, SpanBy, SteinerAnswer, StraightAnswer};
 ghost use Rattle.net_laws.specs.Readings.{PathAnswer, RowAnswer, RowsAnswer, WorstAnswer, figure_of};
 ghost use Rattle.net_laws.specs.Sinks.{FiguredSinkAt};
 ghost use Rattle.net_laws.specs.Builds.{Bounds, EdgeForEdge, NoMoreThanStraight};
-ghost use Rattle.net_laws.specs.Spaces.{joining, wiring};
+ghost use Rattle.net_laws.specs.Spaces.{TiedToSpace, joining, wiring};
 ghost use Rattle.net_laws.specs.States.{fresh};
 ghost use Rattle.net_laws.specs.Worsts.{worst_before};
 ghost use Rattle.net_laws.specs.declared.call.Call.TheVariants.{Edge as EdgeCall, Hook as HookCall, Pin as PinCall, Span as SpanCall, Steiner as SteinerCall, Straight as StraightCall, Unseed as UnseedCall};
 ghost use Rattle.net_laws.specs.declared.call.JoinCall.TheVariants.{Joined as JoinedCall, Share as ShareCall};
 ghost use Rattle.order.specs.Bests.{BestOf};
-ghost use Rattle.space.specs.Totals.{edge_length};
+ghost use Rattle.space.specs.Totals.{capped_distance, edge_length};
 
 use crate::state::NetState;
 use joined::Joiner;
@@ -57,7 +58,8 @@ impl<S: Space> Model for Net<S> {
 impl<S: Space + Drop> Net<S> {
     /// A net without nodes in the space. Memory for the largest net is taken here, and fails here.
     pub fn new(heap: Global, space: S) -> Result<Net<S>, AllocError>
-        ensures { IfOk result (λ n. n ≡ record { space = space; state = fresh }) }
+        ensures made { IfOk result (λ n. n ≡ record { space = space; state = fresh }) }
+        ensures tied { IfOk result (λ n. TiedToSpace S.Space n.space n.state) }
     {
         let state = NetState::new(heap)?;
         let spanner = Spanner::new(heap)?;
@@ -82,6 +84,8 @@ impl<S: Space> Net<S> {
     /// the space is too wide (1) or does not admit the spot (2), there are 256 pins (3), or a pin is less than 1 away (4).
     pub fn pin(&mut self, spot: Spot) -> Result<usize, Fault>
         ensures answer { Answered S.Space self.old self.new (PinCall spot) result }
+        ensures always { PinAnswer (total_wiring S.Space self.old.space) self.old.state self.new.state spot result }
+        ensures tied { TiedToSpace S.Space self.new.space self.new.state }
         ensures unchanged { is_err result ≡ true → self.new ≡ self.old }
         ensures stays { self.new.space ≡ self.old.space }
     {
@@ -92,11 +96,13 @@ impl<S: Space> Net<S> {
     /// is 0 or above 1,000 (5).
     pub fn allow(&mut self, p: u64, q: u64) -> Result<(), Fault>
         ensures answer { AllowAnswer (wiring S.Space self.old.space) self.old.state self.new.state p q result }
+        ensures tied { TiedToSpace S.Space self.new.space self.new.state }
         ensures unchanged { is_err result ≡ true → self.new ≡ self.old }
         ensures stays { self.new.space ≡ self.old.space }
     {
+        let state = &mut self.state;
         let allowance = Allowance::new(p, q).ok_or(Fault::BadAllowance)?;
-        self.state.allow(allowance);
+        state.allow(allowance);
         Ok(())
     }
 
@@ -104,6 +110,8 @@ impl<S: Space> Net<S> {
     /// space does not admit the spot (2), or there are 256 Steiner points (7).
     pub fn steiner(&mut self, spot: Spot) -> Result<usize, Fault>
         ensures answer { Answered S.Space self.old self.new (SteinerCall spot) result }
+        ensures always { SteinerAnswer (total_wiring S.Space self.old.space) self.old.state self.new.state spot result }
+        ensures tied { TiedToSpace S.Space self.new.space self.new.state }
         ensures unchanged { is_err result ≡ true → self.new ≡ self.old }
         ensures stays { self.new.space ≡ self.old.space }
     {
@@ -114,6 +122,8 @@ impl<S: Space> Net<S> {
     /// two pins (6), a number is no node (8), a path of edges joins the nodes already (9), or they are less than 1 apart (10).
     pub fn edge(&mut self, a: usize, b: usize) -> Result<u64, Fault>
         ensures answer { Answered S.Space self.old self.new (EdgeCall a b) result }
+        ensures always { EdgeAnswer (total_wiring S.Space self.old.space) self.old.state self.new.state a b result }
+        ensures tied { TiedToSpace S.Space self.new.space self.new.state }
         ensures unchanged { is_err result ≡ true → self.new ≡ self.old }
         ensures stays { self.new.space ≡ self.old.space }
     {
@@ -123,6 +133,7 @@ impl<S: Space> Net<S> {
     /// Drops the Steiner points, the edges and the tree.
     pub fn unseed(&mut self)
         ensures answer { Answered S.Space self.old self.new UnseedCall (Ok 0) }
+        ensures tied { TiedToSpace S.Space self.new.space self.new.state }
         ensures stays { self.new.space ≡ self.old.space }
     {
         self.state.unseed();
@@ -132,6 +143,9 @@ impl<S: Space> Net<S> {
     /// fewer than two pins (6). The time grows with the square of the pins.
     pub fn span(&mut self) -> Result<u64, Fault>
         ensures answer { Answered S.Space self.old self.new SpanCall result }
+        ensures always { SpanBy (total_wiring S.Space self.old.space) self.old.state self.new.state
+            (edge_length S.Space self.old.space) result }
+        ensures tied { TiedToSpace S.Space self.new.space self.new.state }
         ensures unchanged { is_err result ≡ true → self.new ≡ self.old }
         ensures stays { self.new.space ≡ self.old.space }
     {
@@ -143,6 +157,8 @@ impl<S: Space> Net<S> {
     /// than two pins (6), no allowance is set (11), or the edges are not one fewer than the nodes (12).
     pub fn straight(&mut self) -> Result<u64, Fault>
         ensures answer { Answered S.Space self.old self.new StraightCall result }
+        ensures always { StraightAnswer (total_wiring S.Space self.old.space) self.old.state self.new.state result }
+        ensures tied { TiedToSpace S.Space self.new.space self.new.state }
         ensures bounds { is_ok result ≡ true
             → Bounds (wiring S.Space self.old.space) self.old.state self.new.state }
         ensures spared { is_ok result ≡ true
@@ -157,6 +173,8 @@ impl<S: Space> Net<S> {
     /// with the square of the rows.
     pub fn hook(&mut self) -> Result<u64, Fault>
         ensures answer { Answered S.Space self.old self.new HookCall result }
+        ensures always { HookAnswer (total_wiring S.Space self.old.space) self.old.state self.new.state result }
+        ensures tied { TiedToSpace S.Space self.new.space self.new.state }
         ensures unchanged { is_err result ≡ true → self.new ≡ self.old }
         ensures stays { self.new.space ≡ self.old.space }
     {
@@ -181,7 +199,8 @@ impl<S: Space> Net<S> {
     /// How far the pin `k` is from the driver: along the tree, and directly. Refused where no tree stands (13), or there is no such pin (16). The time
     /// grows with the rows on the path.
     pub fn path(&self, k: usize) -> Result<PinPath, Fault>
-        ensures { PathAnswer (S.Space.between self.now.space) self.now.state k result }
+        ensures answer { PathAnswer (S.Space.between self.now.space) self.now.state k result }
+        ensures always { PathAnswer (capped_distance S.Space self.now.space) self.now.state k result }
     {
         let tree = self.state.tree()?;
         if k >= self.state.pins {
@@ -218,7 +237,8 @@ impl<S: Space> Net<S> {
 
     /// The sink whose path is the longest by its direct distance. Refused where no tree stands (13).
     pub fn worst(&self) -> Result<Worst, Fault>
-        ensures { WorstAnswer (S.Space.between self.now.space) self.now.state result }
+        ensures answer { WorstAnswer (S.Space.between self.now.space) self.now.state result }
+        ensures always { WorstAnswer (edge_length S.Space self.now.space) self.now.state result }
     {
         let tree = self.state.tree()?;
         // There are 2 pins or more, so there is a sink.
@@ -231,6 +251,8 @@ impl<S: Joining> Net<S> {
     /// as `straight` is (6, 11, 12).
     pub fn joined(&mut self) -> Result<u64, Fault>
         ensures answer { JoinAnswered S.Space S.Joining.own self.old self.new JoinedCall result }
+        ensures always { JoinedAnswer (total_joining S.Space S.Joining.own self.old.space) self.old.state self.new.state result }
+        ensures tied { TiedToSpace S.Space self.new.space self.new.state }
         ensures bounds { is_ok result ≡ true
             → Bounds (joining S.Space S.Joining.own self.old.space) self.old.state self.new.state }
         ensures spared { is_ok result ≡ true
@@ -248,6 +270,8 @@ impl<S: Joining> Net<S> {
     /// the tree has 768 rows (15). The time grows with the square of the rows.
     pub fn share(&mut self) -> Result<u64, Fault>
         ensures answer { JoinAnswered S.Space S.Joining.own self.old self.new ShareCall result }
+        ensures always { ShareAnswer (total_joining S.Space S.Joining.own self.old.space) self.old.state self.new.state result }
+        ensures tied { TiedToSpace S.Space self.new.space self.new.state }
         ensures unchanged { is_err result ≡ true → self.new ≡ self.old }
         ensures stays { self.new.space ≡ self.old.space }
     {

@@ -1,7 +1,9 @@
-// Calls of the walk and of the two builders that no net makes, each on a tree of its own.
+// Calls of the walk and of the two builders that no net makes, each on a tree of its own; and those of a net that is known by contracts alone.
 use crate::spots::at;
+use crate::tied::{called, direct_of, length_of, pinned};
 use built_spaces::Plane;
 use joined::Joiner;
+use net::Call;
 use seed::Seed;
 use std::process::Abort;
 use std::test::Fail;
@@ -98,5 +100,23 @@ fn walks(rt: HostRuntime) -> Result<(), Fail> {
         "a row too many"
     );
     assert!(rt; Allowance::new(1, 0).is_none() && Allowance::new(u64::MAX, u64::MAX).is_none());
+    Ok(())
+}
+
+// A net that is known by the contracts of its calls alone: two pins 7 apart.
+#[test]
+fn known_by_contracts(rt: HostRuntime) -> Result<(), Fail> {
+    let mut net = pinned(rt.alloc(), Plane, at(0, 0, 0))?;
+    let calls = [
+        Call::Pin(at(3, 4, 0)),
+        Call::Allow(0, 1),
+        Call::Edge(0, 1),
+        Call::Straight,
+    ];
+    let mut answers = [Ok(0); 4];
+    assert_eq!(rt; called(&mut net, &calls, &mut answers), 4);
+    assert!(rt; answers[0] == Ok(1) && answers[2] == Ok(7) && answers[3] == Ok(7));
+    assert_eq!(rt; (direct_of(&net, 1), direct_of(&net, 2)), (7, 0));
+    assert_eq!(rt; length_of(&mut net, 0, 1), 0);
     Ok(())
 }

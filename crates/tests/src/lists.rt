@@ -10,13 +10,13 @@ use std::process::Abort;
 use std::test::Fail;
 
 // A constant calls no function, `Spot::default` neither.
-const O: Spot = Spot {
+pub(crate) const O: Spot = Spot {
     x: 0,
     y: 0,
     level: 0,
 };
 
-const OUT: Spot = Spot {
+pub(crate) const OUT: Spot = Spot {
     x: 0,
     y: 0,
     level: 99,
@@ -44,7 +44,7 @@ const FAR: Spot = Spot {
 };
 
 // What a call answers: a number, or a refusal by the number that users are told.
-type Said = Result<u64, u8>;
+pub(crate) type Said = Result<u64, u8>;
 
 const CALLS: [Call; 11] = [
     Call::Hook,
@@ -103,7 +103,7 @@ const OTHERS: [Said; 11] = [
 ];
 
 // Whether the answers are these.
-fn check_answers(rt: &impl Abort, answers: &[Result<u64, Fault>], expected: &[Said]) {
+pub(crate) fn check_answers(rt: &impl Abort, answers: &[Result<u64, Fault>], expected: &[Said]) {
     assert_eq!(rt; answers.len(), expected.len());
     for (i, (answer, said)) in answers.iter().zip(expected.iter()).enumerate() {
         let answer = answer.map_err(|fault| fault.number());

@@ -4,7 +4,7 @@ use Rattle.net_laws.specs.Answers.{JoinAnswers}
 use Rattle.net_laws.specs.declared.call.JoinCall.{JoinCall}
 use Rattle.net_laws.specs.declared.fault.Fault.{Fault}
 use Rattle.guarantee.specs.CallsMade.{CallsMade}
-use Rattle.guarantee.proofs.Making.{kept_more, kept_none, rest_more}
+use Rattle.guarantee.proofs.Making.{kept_more, kept_none, rest_more, tied_run}
 use Rattle.guarantee.proofs.running.run.Goals as goal
 
 pub loop-i-init : goal.loop-i-init
@@ -38,3 +38,8 @@ loop-i-preserved g c =
       rest_more c.args.answers.now xs i r c.loop-i.invariant.1,
       c.make.ensures.stays ∙ c.loop-i.invariant.2,
     )
+
+pub returns-clause-tied : goal.returns-clause-tied
+returns-clause-tied g c =
+    let s = c.args.net.now.space in
+    λ t. tied_run (g.C.NetCall.geometry s) (g.met.C.NetCall.keeps s) c.args.net.now.state t c.loop-i.invariant.0.runs

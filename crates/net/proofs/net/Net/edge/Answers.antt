@@ -16,3 +16,14 @@ returns-clause-answer g c =
     let m = c.edge.new.self in
     let t = c.edge.ensures in
     rw (← c.self.view_is) (whole_edge g.S.Space s (g.met.S.Space.metric s) n.state m c.args.a c.args.b c.edge.result t.answer (unchanged_by c.edge.result n.state m t.unchanged) c.self.invariant).0
+
+pub returns-clause-always : goal.returns-clause-always
+returns-clause-always g c = rw (← c.self.view_is) c.edge.ensures.answer
+
+pub returns-clause-tied : goal.returns-clause-tied
+returns-clause-tied g c =
+    let n = c.self.inside in
+    let s = n.space in
+    let m = c.edge.new.self in
+    let t = c.edge.ensures in
+    (whole_edge g.S.Space s (g.met.S.Space.metric s) n.state m c.args.a c.args.b c.edge.result t.answer (unchanged_by c.edge.result n.state m t.unchanged) c.self.invariant).1

@@ -53,3 +53,14 @@ returns-clause-shorter g c =
     let laws = joining_keeps_lem g.S.Space g.S.Joining s (g.met.S.Space.metric s) (g.met.S.Joining.meets s) in
     let own = (whole_joined g.S.Space g.S.Joining s (g.met.S.Space.metric s) (g.met.S.Joining.meets s) n.state m r t.answer (unchanged_by r n.state m t.unchanged) c.self.invariant).0 in
     rw (← c.self.view_is) (joined_no_longer (joining g.S.Space g.S.Joining s) laws n.state m c.self.invariant r own.0)
+
+pub returns-clause-always : goal.returns-clause-always
+returns-clause-always g c = rw (← c.self.view_is) c.joined.ensures.answer
+
+pub returns-clause-tied : goal.returns-clause-tied
+returns-clause-tied g c =
+    let n = c.self.inside in
+    let s = n.space in
+    let m = c.joined.new.self in
+    let t = c.joined.ensures in
+    (whole_joined g.S.Space g.S.Joining s (g.met.S.Space.metric s) (g.met.S.Joining.meets s) n.state m c.joined.result t.answer (unchanged_by c.joined.result n.state m t.unchanged) c.self.invariant).1

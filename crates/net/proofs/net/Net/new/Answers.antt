@@ -11,3 +11,10 @@ invariant_of-result g c =
     let s = c.args.space in
     let P : State → Type 0 = λ n. TiedToSpace G s n in
     subst P (sym c.in_ok-state.ensures) (fresh_tied (wiring G s) (wiring_keeps G s (g.met.S.Space.metric s)))
+
+pub returns-clause-tied : goal.returns-clause-tied
+returns-clause-tied g c =
+    let G = g.S.Space in
+    let s = c.args.space in
+    let P : State → Type 0 = λ n. TiedToSpace G s n in
+    subst P (sym c.in_ok-state.ensures) (fresh_tied (wiring G s) (wiring_keeps G s (g.met.S.Space.metric s)))

@@ -16,3 +16,14 @@ returns-clause-answer g c =
     let m = c.steiner.new.self in
     let t = c.steiner.ensures in
     rw (← c.self.view_is) (whole_steiner g.S.Space s (g.met.S.Space.metric s) n.state m c.args.spot c.steiner.result t.answer (unchanged_by c.steiner.result n.state m t.unchanged) c.self.invariant).0
+
+pub returns-clause-always : goal.returns-clause-always
+returns-clause-always g c = rw (← c.self.view_is) c.steiner.ensures.answer
+
+pub returns-clause-tied : goal.returns-clause-tied
+returns-clause-tied g c =
+    let n = c.self.inside in
+    let s = n.space in
+    let m = c.steiner.new.self in
+    let t = c.steiner.ensures in
+    (whole_steiner g.S.Space s (g.met.S.Space.metric s) n.state m c.args.spot c.steiner.result t.answer (unchanged_by c.steiner.result n.state m t.unchanged) c.self.invariant).1

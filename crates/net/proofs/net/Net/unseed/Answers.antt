@@ -5,3 +5,8 @@ pub invariant_of-self : goal.invariant_of-self
 invariant_of-self g c =
     let n = c.self.inside in
     whole_unseed g.S.Space n.space (g.met.S.Space.metric n.space) n.state c.unseed.new.self c.unseed.ensures c.self.invariant
+
+pub returns-clause-tied : goal.returns-clause-tied
+returns-clause-tied g c =
+    let n = c.self.inside in
+    whole_unseed g.S.Space n.space (g.met.S.Space.metric n.space) n.state c.unseed.new.self c.unseed.ensures c.self.invariant
