@@ -1,5 +1,8 @@
 // A net from its pins to its refined tree.
-ghost use Rattle.std.specs.Prelude.{◌≡◌, ◌+◌, ◌*◌, ◌/◌, true, is_ok, IfOk};
+ghost use Rattle.std.specs.Prelude.{◌≡◌, ◌+◌, ◌*◌, ◌/◌, true, is_ok, Err, IfErr, IfOk, Some};
+ghost use Rattle.net_laws.specs.declared.fault.Fault.{Fault};
+ghost use Rattle.route.specs.Stops.{refusal_in};
+ghost use Rattle.route.specs.declared.routing.Stop.TheVariants.{Print as printed};
 
 use crate::printing::{print_figure, print_refusal};
 use crate::refining::{Refined, TURNS, hooks, hooks_and_shares};
@@ -17,6 +20,8 @@ enum Stop {
 }
 
 impl From<io::Error> for Stop {
+    ghost from_gives = { λ e r. r ≡ printed e };
+
     fn from(error: io::Error) -> Stop {
         Stop::Print(error)
     }
@@ -134,7 +139,8 @@ fn print_left_out(rt: &HostRuntime, entry: Entry, fault: Fault) -> io::Result<()
 
 /// Prints the wire that a call answered.
 fn done(rt: &HostRuntime, name: &'static str, answer: Result<u64, Fault>) -> Result<(), Stop>
-    ensures { IfOk result (λ u. is_ok answer ≡ true) }
+    ensures made { IfOk result (λ u. is_ok answer ≡ true) }
+    ensures refused { IfErr result (λ stop. (fault : Fault) → refusal_in stop ≡ Some fault → answer ≡ Err fault) }
 {
     let wire = answer.map_err(|fault| Stop::Refused(name, fault))?;
     print_figure(rt, name, wire)?;
