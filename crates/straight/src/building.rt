@@ -51,6 +51,9 @@ impl Builder {
         ensures { Answer S.Space space.now tree.old self.old spots.now allowance.p allowance.q pins
             seed.now.seed.now self.new result tree.new }
     {
+        if seed.seed.nodes() != spots.len() {
+            return None;
+        }
         measure(&mut self.walk, space, spots)?;
         self.walk.walk(seed, pins, allowance).ok()?;
         let plan = Plan {

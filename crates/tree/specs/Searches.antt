@@ -1,11 +1,12 @@
 -- The search for the best hook move. Assumes nothing.
-use Rattle.std.specs.Prelude.{◌≡◌, ℕ, ◌<◌, ◌≤◌, Bool, false, ◌⊎◌, List, length, nat_lt}
+use Rattle.std.specs.Prelude.{◌≡◌, ℕ, ◌+◌, ◌<◌, ◌≤◌, Bool, true, false, cond, ◌⊎◌, List, length, nat_lt, suc, zero}
 use Rattle.order.specs.Firsts.{Among}
 use Rattle.space.specs.declared.Space.{Ghosts}
 use Rattle.tree_laws.specs.declared.hook.Hook.{Hook}
 use Rattle.tree_laws.specs.Distances.{capped_row_distance}
 use Rattle.tree_laws.specs.Hooks.{HookMove, hook_before}
 use Rattle.tree_laws.specs.Trees.{path_length, row_length, row_spot}
+use Rattle.tree_laws.specs.declared.Row.{Row}
 use Rattle.tree.specs.declared.refining.Hanging.{Hanging}
 use Rattle.tree.specs.declared.refining.HookSearch.{HookSearch}
 
@@ -43,3 +44,9 @@ Done G q F k = (m : Hook) → HookMoveIn G q m → m.v ≡ k → (w : Hook) × A
 pub record Looked {X : Type 0} (G : Ghosts X) (q : HookSearch X G) (long : Bool) (half : ℕ) (E F : List Hook) : Type 0 where
   pub rows : (k : ℕ) → k < length q.table.now.rows → nat_lt half (row_length q.table.now.rows k) ≡ long → Done G q F k
   pub kept : (k : ℕ) → Done G q E k → Done G q F k
+
+-- How many of the first n rows are longer than `half`, or are not.
+abbrev pub looked_at : List Row → (half : ℕ) (long : Bool) (n : ℕ) → ℕ
+looked_at rows half long zero = 0
+looked_at rows half true (suc n) = looked_at rows half true n + cond (nat_lt half (row_length rows n)) 1 0
+looked_at rows half false (suc n) = looked_at rows half false n + cond (nat_lt half (row_length rows n)) 0 1

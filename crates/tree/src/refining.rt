@@ -27,7 +27,7 @@ struct Moves {
     firsts: Vec<Hook>,
     floor: u64,
     ghost row_room: { ROWS ≤ vec_capacity row },
-    ghost firsts_room: { ROWS + ROWS ≤ vec_capacity firsts },
+    ghost firsts_room: { ROWS ≤ vec_capacity firsts },
 }
 
 impl Refiner {
@@ -35,7 +35,7 @@ impl Refiner {
     pub fn new(heap: Global) -> Result<Refiner, AllocError> {
         let paths = Vec::with_capacity(heap, ROWS)?;
         let row = Vec::with_capacity(heap, ROWS)?;
-        let firsts = Vec::with_capacity(heap, 2 * ROWS)?;
+        let firsts = Vec::with_capacity(heap, ROWS)?;
         let moves = Moves {
             row,
             firsts,
@@ -66,7 +66,7 @@ struct Hanging {
 
 impl<'a, S: Space> HookSearch<'a, S> {
     ghost use Rattle.order.specs.Bests.{Found};
-    ghost use Rattle.tree.specs.Searches.{Firsts, HangsIn, HookMoveAt, HookMoveIn, HookMoveOf, Looked};
+    ghost use Rattle.tree.specs.Searches.{Firsts, HangsIn, HookMoveAt, HookMoveIn, HookMoveOf, Looked, looked_at};
 
     /// The move of a row on `u`, where it is one.
     fn weigh(&self, of: Hanging, u: usize) -> Option<Hook>
@@ -132,12 +132,13 @@ impl<'a, S: Space> HookSearch<'a, S> {
     /// Finds the first move of each row that is longer than `half`, or of each other row, where it saves no less than one found before.
     fn look(&self, long: bool, half: u64, moves: &mut Moves)
         requires found { Firsts S.Space self.now moves.old.firsts.items moves.old.floor }
-        requires room { length moves.old.firsts.items + length self.now.table.now.rows ≤ ROWS + ROWS }
+        requires room { length moves.old.firsts.items
+            + looked_at self.now.table.now.rows half long (length self.now.table.now.rows) ≤ ROWS }
         ensures found { Firsts S.Space self.now moves.new.firsts.items moves.new.floor }
         ensures looked { Looked S.Space self.now long half moves.old.firsts.items
             moves.new.firsts.items }
-        ensures few { length moves.new.firsts.items
-            ≤ length moves.old.firsts.items + length self.now.table.now.rows }
+        ensures few { length moves.new.firsts.items ≤ length moves.old.firsts.items
+            + looked_at self.now.table.now.rows half long (length self.now.table.now.rows) }
     {
         for v in 0..self.table.len() {
             if (self.table.at(v).length > half) == long {

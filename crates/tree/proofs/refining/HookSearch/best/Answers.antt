@@ -1,4 +1,4 @@
-use Rattle.std.proofs.Common.{◌≡◌, ℕ, ◌<◌, ◌/◌, true, false, List, length, nat_lt, refl, subst, ⊎_elim}
+use Rattle.std.proofs.Common.{◌≡◌, ℕ, ◌<◌, ◌/◌, true, false, List, length, nat_lt, ap, refl, subst, ⊎_elim, arith}
 use Rattle.std.proofs.lemmas.Bool.{cases_Bool}
 use Rattle.order.specs.Bests.{Decides}
 use Rattle.order.specs.Firsts.{FirstOf}
@@ -7,6 +7,7 @@ use Rattle.tree_laws.specs.declared.hook.Hook.{Hook}
 use Rattle.tree_laws.specs.Hooks.{hook_before, hook_order}
 use Rattle.tree_laws.specs.Trees.{row_length}
 use Rattle.tree.specs.Searches.{Done, HookMoveIn}
+use Rattle.tree.proofs.Halves.{halves}
 use Rattle.tree.proofs.refining.HookSearch.best.Goals as goal
 
 pub returns : goal.returns
@@ -26,3 +27,13 @@ returns g c =
     } in
     let F : List Hook → Type 0 = λ xs. FirstOf hook_before xs c.first.result in
     decides_first hook_order (HookMoveIn g.S.Space q) f.firsts.items c.first.result all (subst F c.as_slice.ensures.value c.first.ensures.first)
+
+pub look-requires-clause-room : goal.look-requires-clause-room
+look-requires-clause-room g c =
+    let t = c.args.self.now.table.now in
+    omega (arith, ap (length {A = Hook}) c.clear.ensures.items, halves t.rows (c.longest-half.result / 2) (length t.rows), t.few)
+
+pub look-requires-2-clause-room : goal.look-requires-2-clause-room
+look-requires-2-clause-room g c =
+    let t = c.args.self.now.table.now in
+    omega (arith, c.look.ensures.few, ap (length {A = Hook}) c.clear.ensures.items, halves t.rows (c.longest-half.result / 2) (length t.rows), t.few)

@@ -1,4 +1,4 @@
-use Rattle.std.proofs.Common.{◌≡◌, ℕ, ◌+◌, ◌<◌, ◌≤◌, Bool, true, false, [], ◌∷◌, ◌++◌, nat_lt, refl, sym, ap, ◌∙◌, subst, inr, ⊎_elim, arith, rules}
+use Rattle.std.proofs.Common.{◌≡◌, ℕ, ◌+◌, ◌<◌, ◌≤◌, Bool, true, false, [], ◌∷◌, nat_lt, length, refl, sym, ap, ◌∙◌, subst, inr, ⊎_elim, arith}
 use Rattle.std.proofs.Math.Bool.{beq}
 use Rattle.std.proofs.lemmas.Bool.{both_ways, cases_lt}
 use Rattle.order.specs.Firsts.{Among}
@@ -10,12 +10,19 @@ use Rattle.tree_laws.specs.Distances.{capped_row_distance}
 use Rattle.tree_laws.specs.Trees.{row_length}
 use Rattle.tree.specs.Searches.{HookMoveIn}
 use Rattle.tree.proofs.Flooring.{done_more, none_done, some_done}
+use Rattle.tree.proofs.Halves.{no_fewer, one_more, so_far}
 use Rattle.tree.proofs.refining.HookSearch.look.Goals as goal
 use Rattle.tree.proofs.refining.HookSearch.look.Goals.{then-at-half+in-Some, then-at-half+in_default, else-at-half}
 
 other : (h n : ℕ) (long : Bool) → nat_lt h n ≡ long → beq (nat_lt h n) long ≡ false → ⊥
 other h n true e f = both_ways _ f (rw e refl)
 other h n false e f = both_ways _ f (rw e refl)
+
+same_as : (a b : Bool) → beq a b ≡ true → a ≡ b
+same_as true true e = refl
+same_as true false e = sym e
+same_as false true e = e
+same_as false false e = refl
 
 pub loop-v-preserved : goal.loop-v-preserved
 loop-v-preserved g c =
@@ -45,7 +52,7 @@ loop-v-preserved g c =
                 (λ (l : v ≤ k). let is : k ≡ v = omega (arith, l, h) in some_done rows d F floor found.low v x best m p (r ∙ is))
                 (cases_lt k v),
             λ k b m p r. done_more F x m (kept k b m p r),
-            omega (arith, few, w.push_reserved.ensures.len),
+            omega (arith, few, w.push_reserved.ensures.len, one_more rows c.args.half c.args.long v (sym (ap (λ (x : Row). nat_lt c.args.half x.length) c.at.ensures.row) ∙ same_as _ _ w.if-at-half.true)),
           ))
       | then-at-half+in_default w ↦
           rw w.moves-is (
@@ -56,7 +63,7 @@ loop-v-preserved g c =
                 (λ (l : v ≤ k). let is : k ≡ v = omega (arith, l, h) in none_done rows d F floor found.low v w.in_default.ensures.best m p (r ∙ is))
                 (cases_lt k v),
             kept,
-            omega (arith, few),
+            omega (arith, few, no_fewer rows c.args.half c.args.long v),
           )
       | else-at-half w ↦
           rw w.moves-is (
@@ -71,6 +78,16 @@ loop-v-preserved g c =
                 absurd (other c.args.half c.at.result.length c.args.long same w.if-at-half.false))
                 (cases_lt k v),
             kept,
-            omega (arith, few),
+            omega (arith, few, no_fewer rows c.args.half c.args.long v),
           )
     ]
+
+pub push_reserved-requires : goal.push_reserved-requires
+push_reserved-requires g c =
+    let rows = c.args.self.now.table.now.rows in
+    let v = c.loop-v.v in
+    let (found, done, kept, few) = c.loop-v.invariant in
+    let here : nat_lt c.args.half (row_length rows v) ≡ c.args.long = sym (ap (λ (x : Row). nat_lt c.args.half x.length) c.at.ensures.row) ∙ same_as _ _ c.if-at-half.true in
+    let row : v < length rows = omega (arith, c.loop-v-test.true, c.loop-v.auto.v-end, c.len-v-end.ensures) in
+    let room = c.loop-v.moves.firsts_room in
+    omega (arith, few, c.requires.room, room, one_more rows c.args.half c.args.long v here, so_far rows c.args.half c.args.long (v + 1) (length rows) (omega (arith, row)))
