@@ -128,6 +128,14 @@ impl Seed {
         self.ends.join(edge);
     }
 
+    /// Drops all edges; the nodes stay. Costs as a restart with the nodes that there are.
+    pub fn drop_edges(&mut self)
+        ensures edges { self.new.edges ≡ [] }
+        ensures nodes { self.new.nodes ≡ self.old.nodes }
+    {
+        self.clear(self.nodes());
+    }
+
     /// Starts again with `n` nodes and no edges; refused, with the seed as it was, where `n` is above `NODES`. Where there were no edges, it
     /// costs nothing for a node that stays.
     pub fn restart(&mut self, n: usize) -> Result<(), SeedFault>
