@@ -52,7 +52,7 @@ struct dagrelk_outcome {
  *
  * Threads. There are no globals. Calls in different threads do not touch each other. A net lives as long as the call that runs it.
  *
- * Memory. A net takes 271,360 bytes from malloc (on x86-64), in 18 pieces. The call asks for them when line 1 is an accepted W, and gives them
+ * Memory. A net takes 252,928 bytes from malloc (on x86-64), in 18 pieces. The call asks for them when line 1 is an accepted W, and gives them
  * back before it returns. Only that can fail for want of memory.
  *
  * Stack. No call recurses. Jobs of 2 to 512 nodes took 4,303 bytes each (measured on x86-64; where C functions are bound lazily, some 3 KiB
