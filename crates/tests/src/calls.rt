@@ -1,9 +1,9 @@
 // Calls of the walk and of the two builders that no net makes, each on a tree of its own; and those of a net that is known by contracts alone.
 use crate::spots::at;
-use crate::tied::{called, direct_of, length_of, pinned};
+use crate::tied::{called, edge_of, path_of, pinned};
 use built_spaces::Plane;
 use joined::Joiner;
-use net::Call;
+use net::{Call, Fault, PinPath};
 use seed::Seed;
 use std::process::Abort;
 use std::test::Fail;
@@ -116,7 +116,8 @@ fn known_by_contracts(rt: HostRuntime) -> Result<(), Fail> {
     let mut answers = [Ok(0); 4];
     assert_eq!(rt; called(&mut net, &calls, &mut answers), 4);
     assert!(rt; answers[0] == Ok(1) && answers[2] == Ok(7) && answers[3] == Ok(7));
-    assert_eq!(rt; (direct_of(&net, 1), direct_of(&net, 2)), (7, 0));
-    assert_eq!(rt; length_of(&mut net, 0, 1), 0);
+    assert!(rt; path_of(&net, 1) == Ok(PinPath { path: 7, direct: 7 }));
+    assert!(rt; path_of(&net, 2) == Err(Fault::OutOfRange));
+    assert!(rt; edge_of(&mut net, 0, 1) == Err(Fault::Joined));
     Ok(())
 }
